@@ -1,0 +1,2 @@
+-- the laws of the definitions in specs/, by subject
+pub mod Tests

@@ -1,0 +1,10 @@
+pub mod Word
+pub mod Palindrome
+pub mod Place
+pub mod Record
+pub mod End
+pub mod Node
+pub mod Eertree
+pub mod Bed
+pub mod Fasta
+pub mod Refusal

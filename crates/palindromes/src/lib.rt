@@ -1,0 +1,2 @@
+// Definitions of palindromes and eertrees, in specs/, and their laws, in proofs/, for any
+// self-inverse partner rule. There is no code here: the crates above cite both.
