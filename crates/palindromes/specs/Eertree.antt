@@ -1,6 +1,6 @@
 -- DEFINITIONS. The eertree of a record as a whole: which nodes there are and what each says, first with no row numbers, then as what a numbered
 -- table must show. Nothing here is proved.
-use Prim.Native.Nat.{ℕ}
+use Prim.Native.Nat.{ℕ, zero, suc, _≤_}
 use mathlib.Core.Path.{_≡_}
 use mathlib.Core.Bool.{Bool, true, false, cond}
 use mathlib.Core.List.{List, [], _∷_, map}
@@ -33,13 +33,24 @@ entryOf σ s v = record { node = v; length = lengthOf v; link = linkOf σ v; inn
 unfoldable pub eertree : (ℕ → ℕ) → Word → List Entry
 eertree σ s = map (entryOf σ s) (nodes σ s)
 
--- a table of numbered rows, each used or free: what a store shows of its rows
+-- a table of numbered rows, each used or free: what a store shows of its rows. The outer letter of a repeat is its last
 pub record Table : Type 0 where
   pub used : ℕ → Bool
   pub length : ℕ → ℤ
   pub link : ℕ → ℕ
   pub inner : ℕ → ℕ
+  pub outer : ℕ → ℕ
   pub edge : ℕ → ℕ → ℕ
+
+-- what a row spells: the partner of its outer letter, its inner row and its outer letter. Rows 0 and 1 are the roots. The first number bounds how deep
+-- the inner rows are followed
+unfoldable pub nodeFrom : (ℕ → ℕ) → (inner outer : ℕ → ℕ) → ℕ → ℕ → Node
+nodeFrom σ inner outer zero zero = imaginary
+nodeFrom σ inner outer zero (suc zero) = spelt []
+nodeFrom σ inner outer zero (suc (suc r)) = imaginary
+nodeFrom σ inner outer (suc depth) zero = imaginary
+nodeFrom σ inner outer (suc depth) (suc zero) = spelt []
+nodeFrom σ inner outer (suc depth) (suc (suc r)) = spelt (around σ (outer (suc (suc r))) (nodeFrom σ inner outer depth (inner (suc (suc r)))))
 
 -- an edge leads to the row of the word around its node, and is 0 where the record has no such repeat
 pub record EdgeIs (σ : ℕ → ℕ) (s : Word) (T : Table) (node : ℕ → Node) (r c : ℕ) : Type 0 where
@@ -57,4 +68,5 @@ pub record Shows (σ : ℕ → ℕ) (s : Word) (T : Table) (node : ℕ → Node)
   pub length-is : (r : ℕ) → T .used r ≡ true → T .length r ≡ lengthOf (node r)
   pub link-is : (r : ℕ) → T .used r ≡ true → (T .used (T .link r) ≡ true) × (node (T .link r) ≡ linkOf σ (node r))
   pub inner-is : (r : ℕ) → T .used r ≡ true → (T .used (T .inner r) ≡ true) × (node (T .inner r) ≡ innerOf (node r))
+  pub outer-is : (r : ℕ) → T .used r ≡ true → 2 ≤ r → node r ≡ spelt (around σ (T .outer r) (node (T .inner r)))
   pub edge-is : (r c : ℕ) → T .used r ≡ true → isLetter c ≡ true → EdgeIs σ s T node r c

@@ -1,0 +1,117 @@
+-- The mirror of a word: it turns words round, undoes itself, and takes what ends a word to what begins its mirror. So the two ends are one theory: a palindrome stands
+-- in a word exactly if it stands in the word's mirror, and a change at the left end is, seen in the mirror, the change at the right end. A law about the left end is the law
+-- about the right end read on the mirror. Rests on the cuts of `Words` and on the library's laws of `reverse` and `map`; a partner rule that undoes itself is asked for
+-- only where a mirror is undone.
+use Prim.Native.Nat.{ℕ}
+use mathlib.Core.Path.{_≡_, refl, sym, ap, _∙_, subst₂}
+use mathlib.Core.Logic.{⊎-elim, _↔_}
+use mathlib.Core.List.{[], _∷_, _++_, map, reverse, append-assoc, map-append, reverse-append}
+use lib.ListN.{length, length-reverse, length-map}
+use Rattle.palindromes.specs.Word.{Word}
+use Rattle.palindromes.specs.Palindrome.{SelfInverse, mirror, Symmetric}
+use Rattle.palindromes.specs.Place.{Suffix, Prefix, Stands}
+use Rattle.palindromes.specs.End.{End, atLeft, atRight, added, removed, letterAt}
+use Rattle.palindromes.proofs.Words.{by-end, removed-added, removed-empty, letter-added}
+
+-- the end across
+abbrev pub other : End → End
+other atLeft = atRight
+other atRight = atLeft
+
+module _ (σ : ℕ → ℕ) where
+  -- ---- words turned round
+
+  -- the mirror of two words joined is their mirrors joined the other way round
+  pub mirror-append : (u v : Word) → mirror σ (u ++ v) ≡ mirror σ v ++ mirror σ u
+  unfolding mirror
+  mirror-append u v = ap reverse (map-append σ u v) ∙ reverse-append (map σ u) (map σ v)
+
+  pub mirror-empty : mirror σ [] ≡ []
+  unfolding mirror
+  mirror-empty = refl
+
+  -- a letter more at the right is its partner more at the left, and the other way
+  pub mirror-snoc : (u : Word) (c : ℕ) → mirror σ (u ++ (c ∷ [])) ≡ σ c ∷ mirror σ u
+  unfolding mirror
+  mirror-snoc u c = mirror-append u (c ∷ [])
+
+  pub mirror-cons : (c : ℕ) (u : Word) → mirror σ (c ∷ u) ≡ mirror σ u ++ (σ c ∷ [])
+  unfolding mirror
+  mirror-cons c u = mirror-append (c ∷ []) u
+
+  pub mirror-length : (w : Word) → length (mirror σ w) ≡ length w
+  unfolding mirror
+  mirror-length w = length-reverse (map σ w) ∙ length-map w σ
+
+  -- ---- what ends a word, what begins it, what stands in it
+
+  pub suffix-mirror : {p s : Word} → Suffix p s → Prefix (mirror σ p) (mirror σ s)
+  suffix-mirror {p} a = record { after = mirror σ (a .before); whole = sym (mirror-append (a .before) p) ∙ ap (mirror σ) (a .whole) }
+
+  pub prefix-mirror : {p s : Word} → Prefix p s → Suffix (mirror σ p) (mirror σ s)
+  prefix-mirror {p} a = record { before = mirror σ (a .after); whole = sym (mirror-append p (a .after)) ∙ ap (mirror σ) (a .whole) }
+
+  pub stands-mirror : {p s : Word} → Stands p s → Stands (mirror σ p) (mirror σ s)
+  stands-mirror {p} {s} a =
+      record {
+        before = mirror σ (a .after);
+        after = mirror σ (a .before);
+        whole =
+            cc (
+              mirror-append (a .before ++ p) (a .after),
+              mirror-append (a .before) p,
+              append-assoc (mirror σ (a .after)) (mirror σ p) (mirror σ (a .before)),
+              ap (mirror σ) (a .whole),
+            );
+      }
+
+  -- ---- palindromes
+
+  -- 001 proposition 2.5, in the proof: a palindrome that ends a palindrome begins it, so a suffix link leads to a word that stood before
+  pub symmetric-suffix : {p s : Word} → Symmetric σ p → Symmetric σ s → Suffix p s → Prefix p s
+  symmetric-suffix {p} {s} h k a = subst₂ Prefix h k (suffix-mirror a)
+
+  -- and one that begins a palindrome ends it
+  pub symmetric-prefix : {p s : Word} → Symmetric σ p → Symmetric σ s → Prefix p s → Suffix p s
+  symmetric-prefix {p} {s} h k a = subst₂ Suffix h k (prefix-mirror a)
+
+  -- ---- changes at the ends
+
+  -- an addition at one end is, in the mirror, the addition of the partner at the other
+  pub mirror-added : (e : End) (c : ℕ) (s : Word) → mirror σ (added e c s) ≡ added (other e) (σ c) (mirror σ s)
+  unfolding added
+  mirror-added atLeft c s = mirror-cons c s
+  mirror-added atRight c s = mirror-snoc s c
+
+  -- and so is a removal
+  pub mirror-removed : (e : End) (s : Word) → mirror σ (removed e s) ≡ removed (other e) (mirror σ s)
+  mirror-removed e s =
+      ⊎-elim
+      (λ n. cc (n, mirror-empty, removed-empty e, removed-empty (other e)))
+      (λ r. cc (r .2, removed-added e (r .1) (r .0), mirror-added e (r .1) (r .0), removed-added (other e) (σ (r .1)) (mirror σ (r .0))))
+      (by-end e s)
+
+  -- the letter at one end is the partner of the letter at the other end of the mirror
+  pub mirror-letter : (e : End) (s : Word) → (s ≡ [] → ⊥) → letterAt (other e) (mirror σ s) ≡ σ (letterAt e s)
+  mirror-letter e s h =
+      ⊎-elim
+      (λ n. absurd (h n))
+      (λ r. cc (r .2, letter-added e (r .1) (r .0), mirror-added e (r .1) (r .0), letter-added (other e) (σ (r .1)) (mirror σ (r .0))))
+      (by-end e s)
+
+module _ (σ : ℕ → ℕ) (inv : SelfInverse σ) where
+  -- the mirror undoes itself
+  pub mirror-mirror : (w : Word) → mirror σ (mirror σ w) ≡ w
+  mirror-mirror [] = cc (mirror-empty σ)
+  mirror-mirror (x ∷ w) = cc (mirror-cons σ x w, mirror-snoc σ (mirror σ w) (σ x), mirror-mirror w, inv x)
+
+  -- the mirrors of two words say which of them ends the other
+  pub prefix-unmirror : {p s : Word} → Prefix (mirror σ p) (mirror σ s) → Suffix p s
+  prefix-unmirror {p} {s} a = subst₂ Suffix (mirror-mirror p) (mirror-mirror s) (prefix-mirror σ a)
+
+  pub suffix-unmirror : {p s : Word} → Suffix (mirror σ p) (mirror σ s) → Prefix p s
+  suffix-unmirror {p} {s} a = subst₂ Prefix (mirror-mirror p) (mirror-mirror s) (suffix-mirror σ a)
+
+  -- the two ends are one theory: a palindrome stands in a word exactly if it stands in the word's mirror
+  pub stands-in-mirror : {w s : Word} → Symmetric σ w → Stands w s ↔ Stands w (mirror σ s)
+  stands-in-mirror {w} {s} h = (λ a. rw h at (stands-mirror σ a), λ a. subst₂ Stands h (mirror-mirror s) (stands-mirror σ a))
