@@ -11,3 +11,4 @@ pub mod Stretches
 pub mod Palindromes
 pub mod NewIn
 pub mod Order
+pub mod Across

@@ -10,10 +10,10 @@ use Rattle.palindromes.specs.Word.{Word}
 use Rattle.palindromes.specs.Palindrome.{SelfInverse, mirror, Symmetric, isSymmetric}
 use Rattle.palindromes.specs.Place.{Suffix}
 use Rattle.palindromes.specs.Record.{prefixes, longestSuffix, lastSymmetric, longestPrefix}
-use Rattle.palindromes.specs.End.{End, atLeft, atRight, longestAt}
+use Rattle.palindromes.specs.End.{End, atLeft, atRight, longestAt, other}
 use Rattle.palindromes.proofs.Tests.{not-true-false, false-not-true, symmetric-true, symmetric-is}
 use Rattle.palindromes.proofs.Words.{suffix-refl, suffix-antisym, suffix-cons, suffix-of-cons, snoc-induction}
-use Rattle.palindromes.proofs.Mirror.{other, mirror-empty, mirror-snoc, mirror-mirror}
+use Rattle.palindromes.proofs.Mirror.{mirror-empty, mirror-snoc, mirror-mirror}
 
 -- v equals its own reversal, ends s, and every word that does both ends v
 pub record Longest (σ : ℕ → ℕ) (v s : Word) : Type 0 where

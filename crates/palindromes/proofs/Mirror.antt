@@ -10,13 +10,8 @@ use lib.ListN.{length, length-reverse, length-map}
 use Rattle.palindromes.specs.Word.{Word}
 use Rattle.palindromes.specs.Palindrome.{SelfInverse, mirror, Symmetric}
 use Rattle.palindromes.specs.Place.{Suffix, Prefix, Stands}
-use Rattle.palindromes.specs.End.{End, atLeft, atRight, added, removed, letterAt}
+use Rattle.palindromes.specs.End.{End, atLeft, atRight, other, added, removed, letterAt}
 use Rattle.palindromes.proofs.Words.{by-end, removed-added, removed-empty, letter-added}
-
--- the end across
-abbrev pub other : End → End
-other atLeft = atRight
-other atRight = atLeft
 
 module _ (σ : ℕ → ℕ) where
   -- ---- words turned round

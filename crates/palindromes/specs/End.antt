@@ -10,6 +10,11 @@ pub data End : Type 0 where
   atLeft : End
   atRight : End
 
+-- the end across
+abbrev pub other : End → End
+other atLeft = atRight
+other atRight = atLeft
+
 -- the record after an accepted addition: 01 "the letter then joins that end"
 unfoldable pub added : End → ℕ → Word → Word
 added atLeft c s = c ∷ s

@@ -1,0 +1,7 @@
+-- laws of tables that show an eertree
+pub mod Covers
+pub mod Rows
+pub mod Nodes
+pub mod Grow
+pub mod Shrink
+pub mod Replay
