@@ -12,3 +12,6 @@ pub mod Palindromes
 pub mod NewIn
 pub mod Order
 pub mod Across
+pub mod Answers
+pub mod Listing
+pub mod Search

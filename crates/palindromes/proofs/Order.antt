@@ -45,7 +45,7 @@ first-end-at w s h =
         simp length-append (omega (arith, first-place-least w s d, simp length-append at (ap length (c .whole))))
 
 -- a word that did not stand before the last letter came first ends with it
-first-end-new : (w s : Word) (c : ℕ) → Stands w (s ++ (c ∷ [])) → (Stands w s → ⊥) → endIn (s ++ (c ∷ [])) w ≡ suc (length s)
+pub first-end-new : (w s : Word) (c : ℕ) → Stands w (s ++ (c ∷ [])) → (Stands w s → ⊥) → endIn (s ++ (c ∷ [])) w ≡ suc (length s)
 first-end-new w s c h out =
     let f = first-place w (s ++ (c ∷ [])) h in
     ⊎-elim (λ e. omega (arith, f .1, simp length-append at (ap length e)))

@@ -12,7 +12,7 @@ use Rattle.palindromes.specs.Node.{Node, spellingOf}
 use Rattle.palindromes.specs.Bed.{isIdentifier, listing}
 use Rattle.palindromes.specs.Fasta.{Fasta, refused, accepted, readFasta}
 
--- a call with its arguments: numbers as the host passes them, and each lent buffer with what it holds
+-- a call with its arguments, numbers as the host passes them. The buffers that it is lent to write to come beside it
 pub data Call : Type 0 where
   opening : (capacity : ℕ) → Call
   add : End → (letter : ℕ) → Call
@@ -21,15 +21,17 @@ pub data Call : Type 0 where
   askLongestAt : End → Call
   askLetter : (place : ℕ) → Call
   askRow : (row : ℕ) → Call
-  spell : (row : ℕ) (out : Word) → Call
+  spell : (row : ℕ) → Call
   find : (piece : Word) → Call
-  list : (identifier scratch out : Word) → Call
-  fasta : (text out : Word) → Call
+  list : (identifier : Word) → Call
+  fasta : (text : Word) → Call
 
--- what a call meets: the size of the lent store, whether the store is good and long enough for its capacity, and what it shows. The letters do not
--- decide which row a repeat has, so what each row holds stands beside them: `none` for a free row and for a number over capacity + 1
+-- what a call meets: the sizes of the lent store, scratch and output, whether the store is good and long enough for its capacity, and what it shows. The
+-- letters do not decide which row a repeat has, so what each row holds stands beside them: `none` for a free row and for a number over capacity + 1
 pub record View : Type 0 where
   pub size : ℕ
+  pub scratch : ℕ
+  pub out : ℕ
   pub good : Bool
   pub capacity : ℕ
   pub letters : Word
@@ -76,15 +78,15 @@ faults σ v askLongest = fault 3 (not (v .good)) ∷ fault 6 (isEmpty (v .letter
 faults σ v (askLongestAt e) = fault 3 (not (v .good)) ∷ fault 6 (isEmpty (v .letters)) ∷ []
 faults σ v (askLetter i) = fault 3 (not (v .good)) ∷ fault 7 (leb (length (v .letters)) i) ∷ []
 faults σ v (askRow r) = fault 3 (not (v .good)) ∷ fault 7 (isFree (v .row r)) ∷ []
-faults σ v (spell r out) = fault 3 (not (v .good)) ∷ fault 7 (isFree (v .row r)) ∷ fault 9 (ltb (length out) (spellingLength (v .row r))) ∷ []
+faults σ v (spell r) = fault 3 (not (v .good)) ∷ fault 7 (isFree (v .row r)) ∷ fault 9 (ltb (v .out) (spellingLength (v .row r))) ∷ []
 faults σ v (find p) = fault 3 (not (v .good)) ∷ fault 8 (isEmpty p) ∷ fault 4 (not (allLetters p)) ∷ []
-faults σ v (list name scratch out) =
+faults σ v (list name) =
     fault 3 (not (v .good))
     ∷ fault 10 (not (isIdentifier name))
-    ∷ fault 9 (ltb (length scratch) (4 * length (v .letters)))
-    ∷ fault 9 (ltb (length out) (length (listing σ name (v .letters))))
+    ∷ fault 9 (ltb (v .scratch) (4 * length (v .letters)))
+    ∷ fault 9 (ltb (v .out) (length (listing σ name (v .letters))))
     ∷ []
-faults σ v (fasta text out) = fastaFault (readFasta text) (length out) ∷ []
+faults σ v (fasta text) = fastaFault (readFasta text) (v .out) ∷ []
 
 -- the number that the call answers: 0 exactly if it is carried out
 unfoldable pub refusal : (ℕ → ℕ) → View → Call → ℕ

@@ -1,0 +1,5 @@
+pub mod Parts
+pub mod Ends
+pub mod Signed
+pub mod Writes
+pub mod Edges

@@ -1,0 +1,5 @@
+pub mod Layout
+pub mod Writes
+pub mod Good
+pub mod Lengths
+pub mod Side

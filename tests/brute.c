@@ -1,0 +1,82 @@
+#include "brute.h"
+#include <string.h>
+
+void brute_plain(unsigned char rule[256])
+{
+    for (int i = 0; i < 256; i++) rule[i] = (unsigned char)i;
+}
+
+void brute_inverted(unsigned char rule[256])
+{
+    brute_plain(rule);
+    rule['A'] = 'T'; rule['T'] = 'A'; rule['C'] = 'G'; rule['G'] = 'C';
+}
+
+int brute_palindrome(const unsigned char *rule, const unsigned char *w, size_t n)
+{
+    if (n == 0) return 0;
+    for (size_t i = 0; i < n; i++)
+        if (w[i] != rule[w[n - 1 - i]]) return 0;
+    return 1;
+}
+
+size_t brute_places(const unsigned char *p, size_t m, const unsigned char *s, size_t n, size_t *first)
+{
+    size_t found = 0;
+    *first = n + 1;
+    for (size_t i = 0; i + m <= n; i++)
+        if (memcmp(s + i, p, m) == 0) {
+            if (found == 0) *first = i;
+            found++;
+        }
+    return found;
+}
+
+size_t brute_list(const unsigned char *rule, const unsigned char *s, size_t n, stretch *out)
+{
+    size_t count = 0;
+    for (size_t end = 1; end <= n; end++)
+        for (size_t start = 0; start < end; start++) {
+            size_t first;
+            if (!brute_palindrome(rule, s + start, end - start)) continue;
+            brute_places(s + start, end - start, s, n, &first);
+            if (first != start) continue;
+            out[count].start = start;
+            out[count].end = end;
+            count++;
+        }
+    return count;
+}
+
+stretch brute_longest(const unsigned char *rule, const unsigned char *s, size_t n)
+{
+    stretch best = {0, 0};
+    for (size_t start = 0; start < n; start++)
+        for (size_t end = start + 1; end <= n; end++)
+            if (end - start > best.end - best.start && brute_palindrome(rule, s + start, end - start)) {
+                best.start = start;
+                best.end = end;
+            }
+    return best;
+}
+
+size_t brute_right(const unsigned char *rule, const unsigned char *s, size_t n)
+{
+    for (size_t start = 0; start < n; start++)
+        if (brute_palindrome(rule, s + start, n - start)) return n - start;
+    return 0;
+}
+
+size_t brute_left(const unsigned char *rule, const unsigned char *s, size_t n)
+{
+    for (size_t end = n; end > 0; end--)
+        if (brute_palindrome(rule, s, end)) return end;
+    return 0;
+}
+
+size_t brute_link(const unsigned char *rule, const unsigned char *w, size_t n)
+{
+    for (size_t start = 1; start < n; start++)
+        if (brute_palindrome(rule, w + start, n - start)) return n - start;
+    return 0;
+}

@@ -1,0 +1,25 @@
+/* A second program that tries every stretch. It shares nothing with the library: no eertree, no links, only loops over
+ * all stretches of the letters. A partner rule is a table of 256 bytes. */
+#ifndef BRUTE_H
+#define BRUTE_H
+#include <stddef.h>
+
+typedef struct { size_t start, end; } stretch;
+
+void brute_plain(unsigned char rule[256]);
+void brute_inverted(unsigned char rule[256]);
+
+/* Whether w, not empty, equals its reversal with every letter replaced by its partner. */
+int brute_palindrome(const unsigned char *rule, const unsigned char *w, size_t n);
+/* How many places the piece has in s, and the first of them (n + 1 where there is none). */
+size_t brute_places(const unsigned char *p, size_t m, const unsigned char *s, size_t n, size_t *first);
+/* Every palindrome of s once, at its first place, ordered by end. Returns how many; out has room for n. */
+size_t brute_list(const unsigned char *rule, const unsigned char *s, size_t n, stretch *out);
+/* The longest palindrome and its leftmost place; 0 at 0 where there is none. */
+stretch brute_longest(const unsigned char *rule, const unsigned char *s, size_t n);
+/* The length of the longest palindrome at the right and at the left end. */
+size_t brute_right(const unsigned char *rule, const unsigned char *s, size_t n);
+size_t brute_left(const unsigned char *rule, const unsigned char *s, size_t n);
+/* The length of the longest proper suffix of w that is a palindrome. */
+size_t brute_link(const unsigned char *rule, const unsigned char *w, size_t n);
+#endif
