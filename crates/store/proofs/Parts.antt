@@ -9,7 +9,7 @@ use mathlib.Core.Logic.{_≢_}
 use mathlib.Core.List.{[], _∷_, _++_, append-assoc}
 use lib.ListN.{length, take, drop, getD, set, take-append-drop}
 use lib.ListN.{length-drop}
-use lib.Seq.{sets, sets-eq, set-comm, getD-set-other, getD-take, getD-drop, take-add, take-suc, drop-cons, take-at, drop-at, length-take-le}
+use lib.Seq.{sets, length-sets, ext-getD, sets-eq, set-comm, getD-set-other, getD-take, getD-drop, take-add, take-suc, drop-cons, take-at, drop-at, length-take-le}
 use Rattle.palindromes.specs.Word.{Word}
 
 -- ---- what a write leaves
@@ -20,6 +20,12 @@ sets-outside l at [] i h = refl
 sets-outside l at (x ∷ w) i h =
     sets-outside (set l at x) (suc at) w i (λ k lt e. h (suc k) (omega arith) (omega arith))
     ∙ getD-set-other l at i x 0 (λ e. h 0 (omega arith) (omega arith))
+
+-- and so does all that follows it
+pub drop-sets : (l : Word) (at : ℕ) (w : Word) (i : ℕ) → at + length w ≤ i → drop i (sets l at w) ≡ drop i l
+drop-sets l at w i h =
+    ext-getD 0 (drop i (sets l at w)) (drop i l) (cc (length-drop i (sets l at w), length-drop i l, length-sets l at w))
+    (λ j q. getD-drop i (sets l at w) j 0 ∙ sets-outside l at w (i + j) (λ k m e. omega arith) ∙ sym (getD-drop i l j 0))
 
 -- the part holds what was written
 pub sets-part : (l : Word) (at : ℕ) (w : Word) (n : ℕ) → length w ≡ n → at + n ≤ length l → take n (drop at (sets l at w)) ≡ w

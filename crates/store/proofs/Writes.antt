@@ -79,7 +79,7 @@ look [] r f v = v
 look (w ∷ ws) r f v = look ws r f (cond (eqb (w .field) f && eqb (w .row) r) (w .value) v)
 
 -- writes fit by the store's length alone
-fitting-kept : (b d : Word) (ws : List Write) → length b ≡ length d → Fitting b ws → Fitting d ws
+pub fitting-kept : (b d : Word) (ws : List Write) → length b ≡ length d → Fitting b ws → Fitting d ws
 fitting-kept b d [] e h = tt
 fitting-kept b d (w ∷ ws) e h = (omega arith, h .1, h .2, fitting-kept b d ws e (h .3))
 

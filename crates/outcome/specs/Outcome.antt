@@ -1,0 +1,111 @@
+-- DEFINITIONS. The outcome of each store call: its reply, and what every lent byte holds after it. Nothing here is proved.
+use Prim.Native.Nat.{ℕ, zero, suc, _*_}
+use mathlib.Core.Path.{_≡_}
+use mathlib.Core.Bool.{Bool, true, false, cond}
+use mathlib.Core.List.{[]}
+use mathlib.Core.Option.{none, some}
+use lib.ListN.{length, getD, replicate}
+use lib.Seq.{sets}
+use Rattle.palindromes.specs.Word.{Word, member}
+use Rattle.palindromes.specs.Place.{standsOnce}
+use Rattle.palindromes.specs.Record.{palindromes, count, longestLength, longestPlace}
+use Rattle.palindromes.specs.End.{letterAt}
+use Rattle.palindromes.specs.Node.{spelt, lengthOf, linkOf, innerOf, spellingOf}
+use Rattle.palindromes.specs.Bed.{listing}
+use Rattle.palindromes.specs.Refusal.{Call, opening, add, remove, askLength, askCount, askLongest, askLongestAt, askLetter, askRow, spell, find, list, fasta, View, refusal}
+use Rattle.store.specs.Layout.{capacityIn, usedIn, lettersIn}
+use Rattle.store.specs.Good.{ruleOf, nodeIn, Good}
+use Rattle.updates.specs.Rows.{rowOf}
+use Rattle.updates.specs.Opening.{opened}
+use Rattle.updates.specs.Addition.{bringsIn, rowAfter, afterAddition}
+use Rattle.updates.specs.Removal.{longestBefore, takesOut, afterRemoval}
+use Rattle.outcome.specs.Reply.{Reply, refusedWith, accepted, twosComplement}
+
+-- the buffers that are lent with a call, beside the store, for it to write to; empty where the call takes none
+pub record Lent : Type 0 where
+  pub scratch : Word
+  pub out : Word
+
+-- what a call answers, and the store and the buffers after it
+pub record Outcome : Type 0 where
+  pub reply : Reply
+  pub store : Word
+  pub lent : Lent
+
+-- what a good store shows a call
+unfoldable pub viewIn : Word → Lent → View
+viewIn b l =
+    record {
+      size = length b;
+      scratch = length (l .scratch);
+      out = length (l .out);
+      good = true;
+      capacity = capacityIn b;
+      letters = lettersIn b;
+      row = λ r. cond (usedIn b r) (some (nodeIn b r)) none;
+    }
+
+-- 01 "a refusal answers its number, zero in every other field, and changes no byte lent"
+unfoldable pub refusedOutcome : ℕ → Word → Lent → Outcome
+refusedOutcome n b l = record { reply = refusedWith n; store = b; lent = l }
+
+-- a change: the store after it, and no other buffer touched
+unfoldable pub changed : Reply → Word → Lent → Outcome
+changed r b l = record { reply = r; store = b; lent = l }
+
+-- what was written, at the front of a buffer whose later bytes stay
+unfoldable pub written : Word → Word → Word
+written w out = sets out 0 w
+
+-- an accepted call. 01 "Questions and changes"; a question changes no byte of the store
+unfoldable pub acceptedOutcome : Call → Word → Lent → Outcome
+acceptedOutcome (opening k) b l = changed (accepted false 0 0 0) (opened k b) l
+acceptedOutcome (add e c) b l = changed (accepted (bringsIn e c b) (cond (bringsIn e c b) (rowAfter e c b) 0) 0 0) (afterAddition e c b) l
+acceptedOutcome (remove e) b l =
+    changed (accepted (takesOut e b) (cond (takesOut e b) (rowOf b (spelt (longestBefore e b))) 0) (letterAt e (lettersIn b)) 0) (afterRemoval e b) l
+acceptedOutcome askLength b l = changed (accepted false 0 (length (lettersIn b)) 0) b l
+acceptedOutcome askCount b l = changed (accepted false 0 (count (ruleOf b) (lettersIn b)) 0) b l
+acceptedOutcome askLongest b l = changed (accepted false 0 (longestLength (ruleOf b) (lettersIn b)) (longestPlace (ruleOf b) (lettersIn b))) b l
+acceptedOutcome (askLongestAt e) b l =
+    changed (accepted (standsOnce (longestBefore e b) (lettersIn b)) (rowOf b (spelt (longestBefore e b))) 0 0) b l
+acceptedOutcome (askLetter i) b l = changed (accepted false 0 (getD (lettersIn b) i 0) 0) b l
+acceptedOutcome (askRow r) b l =
+    changed
+    (accepted false (rowOf b (linkOf (ruleOf b) (nodeIn b r))) (twosComplement (lengthOf (nodeIn b r))) (rowOf b (innerOf (nodeIn b r))))
+    b
+    l
+acceptedOutcome (spell r) b l =
+    record {
+      reply = accepted false 0 (length (spellingOf (nodeIn b r))) 0;
+      store = b;
+      lent = record { scratch = l .scratch; out = written (spellingOf (nodeIn b r)) (l .out) };
+    }
+acceptedOutcome (find p) b l =
+    changed
+    (accepted
+    (member p (palindromes (ruleOf b) (lettersIn b)))
+    (cond (member p (palindromes (ruleOf b) (lettersIn b))) (rowOf b (spelt p)) 0)
+    0
+    0)
+    b
+    l
+acceptedOutcome (list name) b l =
+    record {
+      reply = accepted false 0 (length (listing (ruleOf b) name (lettersIn b))) 0;
+      store = b;
+      lent = record { scratch = written (replicate (4 * length (lettersIn b)) 0) (l .scratch); out = written (listing (ruleOf b) name (lettersIn b)) (l .out) };
+    }
+acceptedOutcome (fasta text) b l = changed (accepted false 0 0 0) b l
+
+unfoldable pub unlessRefused : ℕ → Call → Word → Lent → Outcome
+unlessRefused zero call b l = acceptedOutcome call b l
+unlessRefused (suc n) call b l = refusedOutcome (suc n) b l
+
+-- the outcome of a call on a good store, and of an opening on any: carried out if no row of the table of numbers applies, and else refused
+unfoldable pub outcome : Call → Word → Lent → Outcome
+outcome call b l = unlessRefused (refusal (ruleOf b) (viewIn b l) call) call b l
+
+-- what a call on a store must come to: 3 first, for a store that is not good; else its outcome
+pub record Answers (call : Call) (b : Word) (l : Lent) (o : Outcome) : Type 0 where
+  pub good : Good b → o ≡ outcome call b l
+  pub damaged : (Good b → ⊥) → o ≡ refusedOutcome 3 b l

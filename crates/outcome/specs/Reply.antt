@@ -1,0 +1,33 @@
+-- DEFINITIONS. The one number that a host call answers. Nothing here is proved.
+use Prim.Native.Nat.{ℕ, zero, suc, _+_, _*_, _-_}
+use mathlib.Core.Bool.{Bool, true, false}
+use lib.IntN.{ℤ, pos, negsuc}
+
+-- 01 "a host call returns one unsigned 64-bit number that packs its answer": the refusal number, a flag (new, went, once, found), a row, and two numbers
+pub record Reply : Type 0 where
+  pub number : ℕ
+  pub flag : Bool
+  pub row : ℕ
+  pub first : ℕ
+  pub second : ℕ
+
+unfoldable pub bit : Bool → ℕ
+bit true = 1
+bit false = 0
+
+-- byte 0 the number, byte 1 the flag, bytes 2 and 3 the row, 4 and 5 the first number, 6 and 7 the second
+unfoldable pub packed : Reply → ℕ
+packed r = r .number + 256 * bit (r .flag) + 65536 * r .row + 4294967296 * r .first + 281474976710656 * r .second
+
+-- 01 "a refusal answers its number, zero in every other field"
+unfoldable pub refusedWith : ℕ → Reply
+refusedWith n = record { number = n; flag = false; row = 0; first = 0; second = 0 }
+
+-- an accepted call answers the number 0
+unfoldable pub accepted : Bool → ℕ → ℕ → ℕ → Reply
+accepted flag row first second = record { number = 0; flag = flag; row = row; first = first; second = second }
+
+-- a signed length as a 16-bit two's complement number
+unfoldable pub twosComplement : ℤ → ℕ
+twosComplement (pos n) = n
+twosComplement (negsuc n) = 65535 - n

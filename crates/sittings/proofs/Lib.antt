@@ -1,0 +1,6 @@
+-- the theorem about lists of calls
+pub mod Refusals
+pub mod State
+pub mod Table
+pub mod Step
+pub mod Theorem

@@ -1,0 +1,139 @@
+-- When a call on a good store is refused, and that it is never refused with 3. Assumes nothing.
+use Prim.Native.Nat.{ℕ, zero, suc, _<_, _≤_}
+use mathlib.Core.Path.{_≡_, refl, sym, ap, ap₂, _∙_, subst}
+use mathlib.Core.Bool.{Bool, true, false, cond, not, _&&_, true≢false}
+use mathlib.Core.Logic.{_⊎_, inl, inr}
+use mathlib.Core.List.{List, [], _∷_}
+use mathlib.Core.Option.{Option, none, some}
+use native.Mathlib.Omega.{arith}
+use lib.Dec.{leb, ltb}
+use lib.ListN.{length}
+use borrow.Author.Tests.{lt-leb, le-leb, leb-true, ltb-false}
+use Rattle.palindromes.specs.Word.{Word, isLetter, allLetters, isEmpty}
+use Rattle.palindromes.specs.End.{End}
+use Rattle.palindromes.specs.Node.{Node}
+use Rattle.palindromes.specs.Refusal.{Call, opening, add, remove, askLength, askCount, askLongest, askLongestAt, askLetter, askRow, spell, find, list, fasta, View, fault, firstFault, isFree, storeSize, faults, refusal}
+use Rattle.palindromes.proofs.Tests.{non-empty-is}
+use Rattle.store.specs.Layout.{capacityIn, usedIn, lettersIn}
+use Rattle.store.specs.Good.{ruleOf, nodeIn, Good}
+use Rattle.outcome.specs.Outcome.{Lent, Outcome, viewIn, unlessRefused, outcome, acceptedOutcome, refusedOutcome}
+
+-- the call takes a store, so that it may stand in a list
+abbrev pub Stored : Call → Type 0
+Stored (opening k) = Unit {0}
+Stored (add e c) = Unit {0}
+Stored (remove e) = Unit {0}
+Stored askLength = Unit {0}
+Stored askCount = Unit {0}
+Stored askLongest = Unit {0}
+Stored (askLongestAt e) = Unit {0}
+Stored (askLetter i) = Unit {0}
+Stored (askRow r) = Unit {0}
+Stored (spell r) = Unit {0}
+Stored (find p) = Unit {0}
+Stored (list name) = Unit {0}
+Stored (fasta text) = ⊥
+
+-- ---- the first fault
+
+-- m is not among the numbers
+abbrev NoneIs : ℕ → List ℕ → Type 0
+NoneIs m [] = Unit {0}
+NoneIs m (n ∷ ns) = (n ≡ m → ⊥) × NoneIs m ns
+
+-- a number that no test of the list has is not the first fault
+first-not : (m : ℕ) → (m ≡ 0 → ⊥) → (ns : List ℕ) → NoneIs m ns → firstFault ns ≡ m → ⊥
+unfolding firstFault
+first-not m h [] a e = h (sym e)
+first-not m h (zero ∷ ns) a e = first-not m h ns (a .1) e
+first-not m h (suc n ∷ ns) a e = a .0 e
+
+-- a row of the table with another number than 3
+other-number : (n : ℕ) (t : Bool) → (n ≡ 3 → ⊥) → fault n t ≡ 3 → ⊥
+unfolding fault
+other-number n true p e = p e
+other-number n false p e = omega arith
+
+-- the row of 3, on a good store
+good-store : fault 3 (not true) ≡ 3 → ⊥
+unfolding fault
+good-store e = omega arith
+
+-- a good store refuses no call with 3, nor does an opening
+pub never-three : (b : Word) (l : Lent) (call : Call) → Stored call → refusal (ruleOf b) (viewIn b l) call ≡ 3 → ⊥
+unfolding refusal faults viewIn
+never-three b l (opening k) h e = first-not 3 (omega arith) _ (other-number 1 _ (omega arith), (other-number 2 _ (omega arith), tt)) e
+never-three b l (add end c) h e = first-not 3 (omega arith) _ (good-store, (other-number 4 _ (omega arith), (other-number 5 _ (omega arith), tt))) e
+never-three b l (remove end) h e = first-not 3 (omega arith) _ (good-store, (other-number 6 _ (omega arith), tt)) e
+never-three b l askLength h e = first-not 3 (omega arith) _ (good-store, tt) e
+never-three b l askCount h e = first-not 3 (omega arith) _ (good-store, tt) e
+never-three b l askLongest h e = first-not 3 (omega arith) _ (good-store, (other-number 6 _ (omega arith), tt)) e
+never-three b l (askLongestAt end) h e = first-not 3 (omega arith) _ (good-store, (other-number 6 _ (omega arith), tt)) e
+never-three b l (askLetter i) h e = first-not 3 (omega arith) _ (good-store, (other-number 7 _ (omega arith), tt)) e
+never-three b l (askRow r) h e = first-not 3 (omega arith) _ (good-store, (other-number 7 _ (omega arith), tt)) e
+never-three b l (spell r) h e = first-not 3 (omega arith) _ (good-store, (other-number 7 _ (omega arith), (other-number 9 _ (omega arith), tt))) e
+never-three b l (find p) h e = first-not 3 (omega arith) _ (good-store, (other-number 8 _ (omega arith), (other-number 4 _ (omega arith), tt))) e
+never-three b l (list name) h e = first-not 3 (omega arith) _ (good-store, (other-number 10 _ (omega arith), (other-number 9 _ (omega arith), (other-number 9 _ (omega arith), tt)))) e
+never-three b l (fasta text) h e = absurd h
+
+-- ---- when a call is carried out
+
+module _ (b : Word) (l : Lent) where
+  pub add-letter : (e : End) (c : ℕ) → isLetter c ≡ false → refusal (ruleOf b) (viewIn b l) (add e c) ≡ 4
+  unfolding refusal faults viewIn firstFault fault
+  add-letter e c h = rw h
+
+  pub add-full : (e : End) (c : ℕ) → isLetter c ≡ true → capacityIn b ≤ length (lettersIn b) → refusal (ruleOf b) (viewIn b l) (add e c) ≡ 5
+  unfolding refusal faults viewIn firstFault fault
+  add-full e c h k = rw (h, le-leb (capacityIn b) (length (lettersIn b)) k)
+
+  pub add-accepted : (e : End) (c : ℕ) → isLetter c ≡ true → length (lettersIn b) < capacityIn b → refusal (ruleOf b) (viewIn b l) (add e c) ≡ 0
+  unfolding refusal faults viewIn firstFault fault
+  add-accepted e c h k = rw (h, lt-leb (capacityIn b) (length (lettersIn b)) k)
+
+  pub remove-empty : (e : End) → lettersIn b ≡ [] → refusal (ruleOf b) (viewIn b l) (remove e) ≡ 6
+  unfolding refusal faults viewIn firstFault fault isEmpty
+  remove-empty e h = rw h
+
+  pub remove-accepted : (e : End) → (lettersIn b ≡ [] → ⊥) → refusal (ruleOf b) (viewIn b l) (remove e) ≡ 0
+  unfolding refusal faults viewIn firstFault fault
+  remove-accepted e h = rw (non-empty-is (lettersIn b) h)
+
+  pub find-accepted : (w : Word) → (w ≡ [] → ⊥) → allLetters w ≡ true → refusal (ruleOf b) (viewIn b l) (find w) ≡ 0
+  unfolding refusal faults viewIn firstFault fault
+  find-accepted w h k = rw (non-empty-is w h, k)
+
+  pub row-accepted : (r : ℕ) → usedIn b r ≡ true → refusal (ruleOf b) (viewIn b l) (askRow r) ≡ 0
+  unfolding refusal faults viewIn firstFault fault isFree
+  row-accepted r h = rw h
+
+  pub row-free : (r : ℕ) → usedIn b r ≡ false → refusal (ruleOf b) (viewIn b l) (askRow r) ≡ 7
+  unfolding refusal faults viewIn firstFault fault isFree
+  row-free r h = rw h
+
+  pub spell-free : (r : ℕ) → usedIn b r ≡ false → refusal (ruleOf b) (viewIn b l) (spell r) ≡ 7
+  unfolding refusal faults viewIn firstFault fault isFree
+  spell-free r h = rw h
+
+-- ---- what the outcome then is
+
+pub carried-out : (call : Call) (b : Word) (l : Lent) → refusal (ruleOf b) (viewIn b l) call ≡ 0 → outcome call b l ≡ acceptedOutcome call b l
+unfolding outcome unlessRefused
+carried-out call b l h = ap (λ (n : ℕ). unlessRefused n call b l) h
+
+pub refused-out : (call : Call) (b : Word) (l : Lent) (n : ℕ) → refusal (ruleOf b) (viewIn b l) call ≡ suc n → outcome call b l ≡ refusedOutcome (suc n) b l
+unfolding outcome unlessRefused
+refused-out call b l n h = ap (λ (m : ℕ). unlessRefused m call b l) h
+
+-- ---- an opening
+
+-- an opening that is not refused has a capacity of 1 to 1,024 and room for it
+pub opening-room : (k : ℕ) (b : Word) (l : Lent) → refusal (ruleOf b) (viewIn b l) (opening k) ≡ 0 → (1 ≤ k) × (k ≤ 1024) × (storeSize k ≤ length b)
+unfolding refusal faults viewIn firstFault fault
+opening-room k b l h = go (leb 1 k) (leb k 1024) (ltb (length b) (storeSize k)) refl refl refl h
+  where
+    go : (p q t : Bool) → leb 1 k ≡ p → leb k 1024 ≡ q → ltb (length b) (storeSize k) ≡ t → firstFault (fault 1 (not (p && q)) ∷ fault 2 t ∷ []) ≡ 0 → (1 ≤ k) × (k ≤ 1024) × (storeSize k ≤ length b)
+    go true true true x y z e = absurd (omega arith)
+    go true true false x y z e = (leb-true 1 k x, leb-true k 1024 y, ltb-false (length b) (storeSize k) z)
+    go true false t x y z e = absurd (omega arith)
+    go false q t x y z e = absurd (omega arith)

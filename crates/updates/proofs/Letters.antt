@@ -1,0 +1,49 @@
+-- Words of letters: a piece of such a word is one, a letter more at an end makes one of one, and what stands at either end of one that is not empty is a letter, and so a byte.
+-- Assumes nothing.
+use Prim.Native.Nat.{ℕ, _<_}
+use native.Mathlib.Omega.{arith}
+use mathlib.Core.Path.{_≡_, refl}
+use mathlib.Core.Bool.{true, _&&_, _||_, and-assoc, and-comm, and-true}
+use mathlib.Core.Logic.{⊎-elim}
+use mathlib.Core.List.{[], _∷_, _++_}
+use lib.Dec.{eqb}
+use borrow.Author.Tests.{eqb-true}
+use Rattle.palindromes.specs.Word.{Word, isLetter, allLetters}
+use Rattle.palindromes.specs.Place.{Stands}
+use Rattle.palindromes.specs.End.{End, atLeft, atRight, added, removed, letterAt}
+use Rattle.palindromes.proofs.Tests.{both-true}
+use Rattle.palindromes.proofs.Lists.{either-true}
+use Rattle.palindromes.proofs.Words.{added-removed}
+
+-- a letter is a byte
+pub letter-byte : (c : ℕ) → isLetter c ≡ true → c < 256
+unfolding isLetter
+letter-byte c h = ⊎-elim acg (λ e. omega (arith, eqb-true c 84 e)) (either-true (eqb c 65 || eqb c 67 || eqb c 71) (eqb c 84) h)
+  where
+    ac : (eqb c 65 || eqb c 67) ≡ true → c < 256
+    ac k = ⊎-elim (λ e. omega (arith, eqb-true c 65 e)) (λ e. omega (arith, eqb-true c 67 e)) (either-true (eqb c 65) (eqb c 67) k)
+
+    acg : (eqb c 65 || eqb c 67 || eqb c 71) ≡ true → c < 256
+    acg k = ⊎-elim ac (λ e. omega (arith, eqb-true c 71 e)) (either-true (eqb c 65 || eqb c 67) (eqb c 71) k)
+
+-- two words joined are of letters exactly if both are
+pub letters-append : (u v : Word) → allLetters (u ++ v) ≡ (allLetters u && allLetters v)
+unfolding allLetters
+letters-append [] v = refl
+letters-append (x ∷ u) v = cc (letters-append u v, and-assoc (isLetter x) (allLetters u) (allLetters v))
+
+-- a piece of a word of letters
+pub letters-piece : {w s : Word} → Stands w s → allLetters s ≡ true → allLetters w ≡ true
+letters-piece {w} {s} p h =
+    let front = both-true (allLetters (p .before ++ w)) (allLetters (p .after)) (cc (letters-append (p .before ++ w) (p .after), p .whole, h)) in
+    both-true (allLetters (p .before)) (allLetters w) (cc (letters-append (p .before) w, front .0)) .1
+
+-- a letter more at an end
+pub letters-added : (e : End) (c : ℕ) (s : Word) → allLetters (added e c s) ≡ (isLetter c && allLetters s)
+unfolding added allLetters
+letters-added atLeft c s = refl
+letters-added atRight c s = cc (letters-append s (c ∷ []), and-comm (allLetters s) (isLetter c && true), and-true (isLetter c))
+
+-- the letter at an end
+pub letter-at-end : (e : End) (w : Word) → (w ≡ [] → ⊥) → allLetters w ≡ true → isLetter (letterAt e w) ≡ true
+letter-at-end e w n h = both-true (isLetter (letterAt e w)) (allLetters (removed e w)) (cc (letters-added e (letterAt e w) (removed e w), added-removed e w n, h)) .0

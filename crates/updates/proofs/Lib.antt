@@ -1,0 +1,19 @@
+-- laws of what a change leaves in the store
+pub mod Letters
+pub mod Rows
+pub mod Determined
+pub mod Start
+pub mod Runs
+pub mod Opening
+pub mod AddedRuns
+pub mod AddedWord
+pub mod AddedBytes
+pub mod AddedSame
+pub mod AddedTable
+pub mod Added
+pub mod RemovedWord
+pub mod RemovedBytes
+pub mod RemovedOrder
+pub mod RemovedTable
+pub mod Removed
+pub mod Undone

@@ -1,0 +1,4 @@
+pub mod Rows
+pub mod Opening
+pub mod Addition
+pub mod Removal

@@ -1,0 +1,25 @@
+-- DEFINITIONS. The bytes after an accepted opening. Nothing here is proved.
+use Prim.Native.Nat.{ℕ, zero, suc, _+_, _*_}
+use mathlib.Core.List.{List, [], _∷_, _++_}
+use lib.ListN.{replicate}
+use lib.Seq.{sets}
+use Rattle.palindromes.specs.Word.{Word}
+use Rattle.store.specs.Layout.{lettersAt}
+use Rattle.store.specs.Writes.{Write, write, writes}
+
+-- how many bytes a store of this capacity uses
+abbrev pub usedBytes : ℕ → ℕ
+usedBytes capacity = lettersAt capacity + capacity
+
+-- the order of the rows from 2 on, and each row's rank: the first n of them in rising order
+unfoldable pub orderWrites : ℕ → List Write
+orderWrites zero = []
+orderWrites (suc n) = orderWrites n ++ (write (n + 2) 8 (n + 2) ∷ write (n + 2) 9 n ∷ [])
+
+-- 01 "leaves an empty record that is full at exactly that many": the capacity, the empty string's row and both ends at it
+unfoldable pub openingWrites : ℕ → List Write
+openingWrites capacity = write 0 8 capacity ∷ write 1 0 1 ∷ write 1 8 1 ∷ write 1 9 1 ∷ orderWrites capacity
+
+-- every byte that the store uses is set, whatever it held, and no other
+unfoldable pub opened : ℕ → Word → Word
+opened capacity b = writes (sets b 0 (replicate (usedBytes capacity) 0)) (openingWrites capacity)

@@ -1,0 +1,40 @@
+/* A sitting in C: two teams build ACGAAG from both ends, ask for its mirror repeats, and take a letter away again. */
+#include "mirror.h"
+#include <stdio.h>
+#include <string.h>
+
+static uint8_t store[MIRROR_STORE_SIZE(64)];
+
+static uint64_t must(uint64_t answer)
+{
+    if (mirror_refusal(answer) != 0) printf("refused: %u\n", mirror_refusal(answer));
+    return answer;
+}
+
+int main(void)
+{
+    uint8_t text[1024], scratch[4 * 64];
+    const char *right = "AAG", *left = "GCA";
+    uint64_t answer;
+
+    must(mirror_open(store, sizeof store, 64));
+    for (size_t i = 0; right[i]; i++) must(mirror_add_right(store, sizeof store, (uint64_t)right[i]));
+    for (size_t i = 0; left[i]; i++) must(mirror_add_left(store, sizeof store, (uint64_t)left[i]));
+    printf("%u letters, %u repeats\n", mirror_first(mirror_length(store, sizeof store)), mirror_first(mirror_count(store, sizeof store)));
+
+    answer = must(mirror_longest(store, sizeof store));
+    printf("longest: %u letters at place %u\n", mirror_first(answer), mirror_second(answer));
+
+    answer = must(mirror_longest_right(store, sizeof store));
+    unsigned row = mirror_row_of(answer);
+    unsigned n = mirror_first(must(mirror_spell(store, sizeof store, row, text, sizeof text)));
+    printf("at the right end: %.*s%s\n", (int)n, (const char *)text, mirror_flag(answer) ? ", once only" : "");
+
+    n = mirror_first(must(mirror_list(store, sizeof store, (const uint8_t *)"e1", 2, scratch, sizeof scratch, text, sizeof text)));
+    fwrite(text, 1, n, stdout);
+
+    answer = must(mirror_remove_right(store, sizeof store));
+    printf("removed %c, row %u %s\n", mirror_first(answer), mirror_row_of(answer), mirror_flag(answer) ? "went" : "stays");
+    printf("GAAG is %s\n", mirror_flag(must(mirror_find(store, sizeof store, (const uint8_t *)"GAAG", 4))) ? "found" : "absent");
+    return 0;
+}

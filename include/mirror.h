@@ -1,0 +1,64 @@
+/* Mirror repeats of a DNA record that is worked from both ends: the calls of a host in C.
+ *
+ * A record lives in a byte store that the host lends with every call. Every call tests the store first, so that a
+ * damaged one is refused and never followed. Buffers of one call must not overlap. Nothing is allocated.
+ *
+ * Every call answers one number: byte 0 (lowest) is the refusal number, 0 where the call was carried out; byte 1 a
+ * flag; bytes 2 and 3 a row; bytes 4 and 5 a first, bytes 6 and 7 a second number. A refusal is its number and zero
+ * above, and leaves every lent byte as it was. docs/HOST.md says which call answers what. */
+#ifndef MIRROR_H
+#define MIRROR_H
+
+#include <stddef.h>
+#include <stdint.h>
+
+#ifdef __cplusplus
+extern "C" {
+#endif
+
+/* The bytes that a store of this capacity (1 to 1,024 letters) needs. */
+#define MIRROR_STORE_SIZE(capacity) (48 * (size_t)(capacity) + 256)
+
+enum {
+    MIRROR_CAPACITY = 1,    /* opening: capacity outside 1 to 1,024 */
+    MIRROR_STORE_SHORT = 2, /* opening: store too short */
+    MIRROR_DAMAGED = 3,     /* store not good, or too short for its capacity */
+    MIRROR_NO_LETTER = 4,   /* not A, C, G, T */
+    MIRROR_FULL = 5,        /* record full */
+    MIRROR_EMPTY = 6,       /* record empty */
+    MIRROR_NO_PLACE = 7,    /* place not in record; row free or over capacity + 1 */
+    MIRROR_NO_PIECE = 8,    /* piece empty */
+    MIRROR_NO_ROOM = 9,     /* buffer shorter than needed */
+    MIRROR_IDENTIFIER = 10, /* identifier not 1 to 32 letters, digits or underscores */
+    MIRROR_HEADER = 11      /* FASTA: a second header line */
+};
+
+uint64_t mirror_open(uint8_t *store, size_t length, uint64_t capacity);
+uint64_t mirror_add_left(uint8_t *store, size_t length, uint64_t letter);
+uint64_t mirror_add_right(uint8_t *store, size_t length, uint64_t letter);
+uint64_t mirror_remove_left(uint8_t *store, size_t length);
+uint64_t mirror_remove_right(uint8_t *store, size_t length);
+uint64_t mirror_length(const uint8_t *store, size_t length);
+uint64_t mirror_count(const uint8_t *store, size_t length);
+uint64_t mirror_longest(const uint8_t *store, size_t length);
+uint64_t mirror_longest_left(const uint8_t *store, size_t length);
+uint64_t mirror_longest_right(const uint8_t *store, size_t length);
+uint64_t mirror_letter(const uint8_t *store, size_t length, uint64_t place);
+uint64_t mirror_row(const uint8_t *store, size_t length, uint64_t row);
+uint64_t mirror_spell(const uint8_t *store, size_t length, uint64_t row, uint8_t *out, size_t out_length);
+uint64_t mirror_find(const uint8_t *store, size_t length, const uint8_t *piece, size_t piece_length);
+uint64_t mirror_list(const uint8_t *store, size_t length, const uint8_t *identifier, size_t identifier_length,
+                     uint8_t *scratch, size_t scratch_length, uint8_t *out, size_t out_length);
+
+static inline unsigned mirror_refusal(uint64_t answer) { return (unsigned)(answer & 0xff); }
+static inline unsigned mirror_flag(uint64_t answer) { return (unsigned)(answer >> 8 & 0xff); }
+static inline unsigned mirror_row_of(uint64_t answer) { return (unsigned)(answer >> 16 & 0xffff); }
+static inline unsigned mirror_first(uint64_t answer) { return (unsigned)(answer >> 32 & 0xffff); }
+static inline unsigned mirror_second(uint64_t answer) { return (unsigned)(answer >> 48); }
+/* The signed length in the answer of mirror_row: -1 for row 0. */
+static inline int mirror_signed_first(uint64_t answer) { return (int16_t)(answer >> 32 & 0xffff); }
+
+#ifdef __cplusplus
+}
+#endif
+#endif
