@@ -1,2 +1,3 @@
 pub mod Reply
 pub mod Outcome
+pub mod Promise

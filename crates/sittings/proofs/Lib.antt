@@ -1,5 +1,4 @@
 -- the theorem about lists of calls
-pub mod Refusals
 pub mod State
 pub mod Table
 pub mod Step

@@ -35,7 +35,7 @@ use Rattle.outcome.specs.Reply.{Reply, refusedWith, accepted}
 use Rattle.outcome.specs.Outcome.{Lent, Outcome, viewIn, unlessRefused, outcome, acceptedOutcome, refusedOutcome, changed, Answers}
 use Rattle.sittings.specs.Run.{Turn, Promised, lettersStep, rowStep}
 use Rattle.sittings.specs.Claims.{Moved, Added, Removed, Undone}
-use Rattle.sittings.proofs.Refusals.{Stored, never-three, add-letter, add-full, add-accepted, remove-empty, remove-accepted, carried-out, refused-out}
+use Rattle.outcome.proofs.Refusals.{Stored, never-three, add-letter, add-full, add-accepted, remove-empty, remove-accepted, carried-out, refused-out}
 use Rattle.sittings.proofs.State.{State}
 
 -- every letter is its own partner

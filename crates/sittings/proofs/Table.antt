@@ -28,7 +28,7 @@ use Rattle.outcome.specs.Reply.{Reply, refusedWith, accepted, twosComplement}
 use Rattle.outcome.specs.Outcome.{Lent, Outcome, viewIn, outcome, acceptedOutcome, refusedOutcome, changed, Answers}
 use Rattle.sittings.specs.Run.{Promised}
 use Rattle.sittings.specs.Claims.{Replies, numberOf, Table}
-use Rattle.sittings.proofs.Refusals.{find-accepted, row-accepted, row-free, spell-free, carried-out, refused-out}
+use Rattle.outcome.proofs.Refusals.{find-accepted, row-accepted, row-free, spell-free, carried-out, refused-out}
 use Rattle.sittings.proofs.State.{State}
 
 -- the nodes that a palindrome links to and holds inside are nodes of the same record

@@ -26,7 +26,7 @@ use Rattle.outcome.specs.Reply.{Reply, accepted, refusedWith}
 use Rattle.outcome.specs.Outcome.{Lent, Outcome, viewIn, unlessRefused, outcome, acceptedOutcome, refusedOutcome, changed, Answers}
 use Rattle.sittings.specs.Run.{Turn, Promised, Run, begun, turn, lettersStep, lettersAfter, rowStep, rowAfter}
 use Rattle.sittings.specs.Claims.{numberOf, Added, Removed, Further, Claims}
-use Rattle.sittings.proofs.Refusals.{Stored, never-three, opening-room}
+use Rattle.outcome.proofs.Refusals.{Stored, never-three, opening-room}
 use Rattle.sittings.proofs.State.{State}
 use Rattle.sittings.proofs.Table.{table, link-node, inner-node}
 use Rattle.sittings.proofs.Step.{add-state, add-claim, add-keeps, remove-state, remove-claim, undone-claim}

@@ -1,5 +1,5 @@
 -- When a call on a good store is refused, and that it is never refused with 3. Assumes nothing.
-use Prim.Native.Nat.{ℕ, zero, suc, _<_, _≤_}
+use Prim.Native.Nat.{ℕ, zero, suc, _*_, _<_, _≤_}
 use mathlib.Core.Path.{_≡_, refl, sym, ap, ap₂, _∙_, subst}
 use mathlib.Core.Bool.{Bool, true, false, cond, not, _&&_, true≢false}
 use mathlib.Core.Logic.{_⊎_, inl, inr}
@@ -8,15 +8,16 @@ use mathlib.Core.Option.{Option, none, some}
 use native.Mathlib.Omega.{arith}
 use lib.Dec.{leb, ltb}
 use lib.ListN.{length}
-use borrow.Author.Tests.{lt-leb, le-leb, leb-true, ltb-false}
+use borrow.Author.Tests.{lt-leb, le-leb, lt-ltb, le-ltb, leb-true, ltb-false}
 use Rattle.palindromes.specs.Word.{Word, isLetter, allLetters, isEmpty}
 use Rattle.palindromes.specs.End.{End}
-use Rattle.palindromes.specs.Node.{Node}
-use Rattle.palindromes.specs.Refusal.{Call, opening, add, remove, askLength, askCount, askLongest, askLongestAt, askLetter, askRow, spell, find, list, fasta, View, fault, firstFault, isFree, storeSize, faults, refusal}
+use Rattle.palindromes.specs.Node.{spellingOf}
+use Rattle.palindromes.specs.Bed.{isIdentifier, listing}
+use Rattle.palindromes.specs.Refusal.{Call, opening, add, remove, askLength, askCount, askLongest, askLongestAt, askLetter, askRow, spell, find, list, fasta, View, fault, firstFault, isFree, spellingLength, storeSize, faults, refusal}
 use Rattle.palindromes.proofs.Tests.{non-empty-is}
 use Rattle.store.specs.Layout.{capacityIn, usedIn, lettersIn}
 use Rattle.store.specs.Good.{ruleOf, nodeIn, Good}
 use Rattle.outcome.specs.Outcome.{Lent, Outcome, viewIn, unlessRefused, outcome, acceptedOutcome, refusedOutcome}
 
 -- the call takes a store, so that it may stand in a list
 abbrev pub Stored : Call → Type 0
@@ -114,6 +115,84 @@ module _ (b : Word) (l : Lent) where
   pub spell-free : (r : ℕ) → usedIn b r ≡ false → refusal (ruleOf b) (viewIn b l) (spell r) ≡ 7
   unfolding refusal faults viewIn firstFault fault isFree
   spell-free r h = rw h
+
+  pub length-accepted : refusal (ruleOf b) (viewIn b l) askLength ≡ 0
+  unfolding refusal faults viewIn firstFault fault
+  length-accepted = refl
+
+  pub count-accepted : refusal (ruleOf b) (viewIn b l) askCount ≡ 0
+  unfolding refusal faults viewIn firstFault fault
+  count-accepted = refl
+
+  pub longest-none : lettersIn b ≡ [] → refusal (ruleOf b) (viewIn b l) askLongest ≡ 6
+  unfolding refusal faults viewIn firstFault fault isEmpty
+  longest-none h = rw h
+
+  pub longest-accepted : (lettersIn b ≡ [] → ⊥) → refusal (ruleOf b) (viewIn b l) askLongest ≡ 0
+  unfolding refusal faults viewIn firstFault fault
+  longest-accepted h = rw (non-empty-is (lettersIn b) h)
+
+  pub longest-at-none : (e : End) → lettersIn b ≡ [] → refusal (ruleOf b) (viewIn b l) (askLongestAt e) ≡ 6
+  unfolding refusal faults viewIn firstFault fault isEmpty
+  longest-at-none e h = rw h
+
+  pub longest-at-accepted : (e : End) → (lettersIn b ≡ [] → ⊥) → refusal (ruleOf b) (viewIn b l) (askLongestAt e) ≡ 0
+  unfolding refusal faults viewIn firstFault fault
+  longest-at-accepted e h = rw (non-empty-is (lettersIn b) h)
+
+  pub letter-outside : (i : ℕ) → length (lettersIn b) ≤ i → refusal (ruleOf b) (viewIn b l) (askLetter i) ≡ 7
+  unfolding refusal faults viewIn firstFault fault
+  letter-outside i h = rw (le-leb (length (lettersIn b)) i h)
+
+  pub letter-accepted : (i : ℕ) → i < length (lettersIn b) → refusal (ruleOf b) (viewIn b l) (askLetter i) ≡ 0
+  unfolding refusal faults viewIn firstFault fault
+  letter-accepted i h = rw (lt-leb (length (lettersIn b)) i h)
+
+  pub spell-short : (r : ℕ) → usedIn b r ≡ true → length (l .out) < length (spellingOf (nodeIn b r)) → refusal (ruleOf b) (viewIn b l) (spell r) ≡ 9
+  unfolding refusal faults viewIn firstFault fault isFree spellingLength
+  spell-short r h k = rw (h, lt-ltb (length (l .out)) (length (spellingOf (nodeIn b r))) k)
+
+  pub spell-accepted : (r : ℕ) → usedIn b r ≡ true → length (spellingOf (nodeIn b r)) ≤ length (l .out) → refusal (ruleOf b) (viewIn b l) (spell r) ≡ 0
+  unfolding refusal faults viewIn firstFault fault isFree spellingLength
+  spell-accepted r h k = rw (h, le-ltb (length (l .out)) (length (spellingOf (nodeIn b r))) k)
+
+  pub find-empty : (w : Word) → w ≡ [] → refusal (ruleOf b) (viewIn b l) (find w) ≡ 8
+  unfolding refusal faults viewIn firstFault fault isEmpty
+  find-empty w h = rw h
+
+  pub find-letters : (w : Word) → (w ≡ [] → ⊥) → allLetters w ≡ false → refusal (ruleOf b) (viewIn b l) (find w) ≡ 4
+  unfolding refusal faults viewIn firstFault fault
+  find-letters w h k = rw (non-empty-is w h, k)
+
+  pub list-name : (name : Word) → isIdentifier name ≡ false → refusal (ruleOf b) (viewIn b l) (list name) ≡ 10
+  unfolding refusal faults viewIn firstFault fault
+  list-name name h = rw h
+
+  pub list-scratch : (name : Word) → isIdentifier name ≡ true → length (l .scratch) < 4 * length (lettersIn b) → refusal (ruleOf b) (viewIn b l) (list name) ≡ 9
+  unfolding refusal faults viewIn firstFault fault
+  list-scratch name h k = rw (h, lt-ltb (length (l .scratch)) (4 * length (lettersIn b)) k)
+
+  pub list-out : (name : Word) → isIdentifier name ≡ true → 4 * length (lettersIn b) ≤ length (l .scratch) → length (l .out) < length (listing (ruleOf b) name (lettersIn b))
+      → refusal (ruleOf b) (viewIn b l) (list name) ≡ 9
+  unfolding refusal faults viewIn firstFault fault
+  list-out name h k m = rw (h, le-ltb (length (l .scratch)) (4 * length (lettersIn b)) k, lt-ltb (length (l .out)) (length (listing (ruleOf b) name (lettersIn b))) m)
+
+  pub list-accepted : (name : Word) → isIdentifier name ≡ true → 4 * length (lettersIn b) ≤ length (l .scratch) → length (listing (ruleOf b) name (lettersIn b)) ≤ length (l .out)
+      → refusal (ruleOf b) (viewIn b l) (list name) ≡ 0
+  unfolding refusal faults viewIn firstFault fault
+  list-accepted name h k m = rw (h, le-ltb (length (l .scratch)) (4 * length (lettersIn b)) k, le-ltb (length (l .out)) (length (listing (ruleOf b) name (lettersIn b))) m)
+
+  pub opening-capacity : (k : ℕ) → (leb 1 k && leb k 1024) ≡ false → refusal (ruleOf b) (viewIn b l) (opening k) ≡ 1
+  unfolding refusal faults viewIn firstFault fault
+  opening-capacity k h = rw h
+
+  pub opening-short : (k : ℕ) → (leb 1 k && leb k 1024) ≡ true → length b < storeSize k → refusal (ruleOf b) (viewIn b l) (opening k) ≡ 2
+  unfolding refusal faults viewIn firstFault fault
+  opening-short k h m = rw (h, lt-ltb (length b) (storeSize k) m)
+
+  pub opening-accepted : (k : ℕ) → (leb 1 k && leb k 1024) ≡ true → storeSize k ≤ length b → refusal (ruleOf b) (viewIn b l) (opening k) ≡ 0
+  unfolding refusal faults viewIn firstFault fault
+  opening-accepted k h m = rw (h, le-ltb (length b) (storeSize k) m)
 
 -- ---- what the outcome then is
 

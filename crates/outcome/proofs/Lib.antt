@@ -1,0 +1,3 @@
+-- laws of the outcomes: when a call is refused, and how a promise is kept
+pub mod Refusals
+pub mod Promises

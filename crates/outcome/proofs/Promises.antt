@@ -1,0 +1,40 @@
+-- How a host call keeps its promise: a store that is not good is refused with 3, a call that a row of the table of numbers names is refused with that
+-- number, and any other is carried out. Rests on `Refusals`.
+use Prim.Native.Nat.{ℕ, suc}
+use mathlib.Core.Path.{_≡_, refl, sym, _∙_, subst}
+use Rattle.palindromes.specs.Word.{Word}
+use Rattle.palindromes.specs.Refusal.{Call, opening, refusal}
+use Rattle.store.specs.Good.{ruleOf, Good}
+use Rattle.outcome.specs.Reply.{packed, refusedWith}
+use Rattle.outcome.specs.Outcome.{Lent, Outcome, viewIn, outcome, acceptedOutcome, refusedOutcome, Answers}
+use Rattle.outcome.specs.Promise.{nothing, Left, Promise, OpeningPromise}
+use Rattle.outcome.proofs.Refusals.{carried-out, refused-out}
+
+module _ (call : Call) (b : Word) (l : Lent) where
+  pub damaged : {r : ℕ} → (Good b → ⊥) → r ≡ packed (refusedWith 3) → Promise call b l r b l
+  unfolding refusedOutcome
+  damaged n e =
+      record {
+        came = refusedOutcome 3 b l;
+        answers = record { good = λ g. absurd (n g); damaged = λ m. refl };
+        left = record { reply = e; store = refl; lent = refl };
+      }
+
+  -- whatever a good store's outcome leaves
+  pub kept : {r : ℕ} {b′ : Word} {l′ : Lent} → Good b → Left (outcome call b l) r b′ l′ → Promise call b l r b′ l′
+  kept g f = record { came = outcome call b l; answers = record { good = λ h. refl; damaged = λ n. absurd (n g) }; left = f }
+
+  pub refused : (n : ℕ) {r : ℕ} → Good b → refusal (ruleOf b) (viewIn b l) call ≡ suc n → r ≡ packed (refusedWith (suc n)) → Promise call b l r b l
+  unfolding refusedOutcome
+  refused n {r} g e p = kept g (subst (λ (o : Outcome). Left o r b l) (sym (refused-out call b l n e)) (record { reply = p; store = refl; lent = refl }))
+
+  pub carried : {r : ℕ} {b′ : Word} {l′ : Lent} → Good b → refusal (ruleOf b) (viewIn b l) call ≡ 0 → Left (acceptedOutcome call b l) r b′ l′ → Promise call b l r b′ l′
+  carried {r} {b′} {l′} g e f = kept g (subst (λ (o : Outcome). Left o r b′ l′) (sym (carried-out call b l e)) f)
+
+module _ (k : ℕ) (b : Word) where
+  pub opening-refused : (n : ℕ) {r : ℕ} → refusal (ruleOf b) (viewIn b nothing) (opening k) ≡ suc n → r ≡ packed (refusedWith (suc n)) → OpeningPromise k b r b
+  unfolding refusedOutcome
+  opening-refused n {r} e p = record { left = subst (λ (o : Outcome). Left o r b nothing) (sym (refused-out (opening k) b nothing n e)) (record { reply = p; store = refl; lent = refl }) }
+
+  pub opening-carried : {r : ℕ} {b′ : Word} → refusal (ruleOf b) (viewIn b nothing) (opening k) ≡ 0 → Left (acceptedOutcome (opening k) b nothing) r b′ nothing → OpeningPromise k b r b′
+  opening-carried {r} {b′} e f = record { left = subst (λ (o : Outcome). Left o r b′ nothing) (sym (carried-out (opening k) b nothing e)) f }

@@ -1,0 +1,28 @@
+-- DEFINITIONS. What a host call promises: the contract of every exported function. Nothing here is proved.
+use Prim.Native.Nat.{ℕ}
+use mathlib.Core.Path.{_≡_}
+use mathlib.Core.List.{[]}
+use Rattle.palindromes.specs.Word.{Word}
+use Rattle.palindromes.specs.Refusal.{Call, opening}
+use Rattle.outcome.specs.Reply.{packed}
+use Rattle.outcome.specs.Outcome.{Lent, Outcome, outcome, Answers}
+
+-- no buffer is lent beside the store
+abbrev pub nothing : Lent
+nothing = record { scratch = []; out = [] }
+
+-- the number r is the packed reply of an outcome, and the store and the buffers are left as it says
+pub record Left (o : Outcome) (r : ℕ) (b : Word) (l : Lent) : Type 0 where
+  pub reply : r ≡ packed (o .reply)
+  pub store : b ≡ o .store
+  pub lent : l ≡ o .lent
+
+-- the call on the store b with the buffers l answers r, and leaves b′ and l′: what it comes to is what `Answers` asks, of every store and every buffer
+pub record Promise (call : Call) (b : Word) (l : Lent) (r : ℕ) (b′ : Word) (l′ : Lent) : Type 0 where
+  pub came : Outcome
+  pub answers : Answers call b l came
+  pub left : Left came r b′ l′
+
+-- the same for an opening, which asks nothing of the store's bytes
+pub record OpeningPromise (k : ℕ) (b : Word) (r : ℕ) (b′ : Word) : Type 0 where
+  pub left : Left (outcome (opening k) b nothing) r b′ nothing
