@@ -1,0 +1,47 @@
+-- `walk::replay::next` steps over the next letter of a good store. Assumes nothing.
+use Prim.Native.Nat.{ℕ, _+_, _<_}
+use native.Mathlib.Omega.{arith}
+use borrow.Author.Needs.{needs}
+use mathlib.Core.Path.{_≡_, ap, _∙_, subst₂}
+use lib.ListN.{getD}
+use Rattle.palindromes.specs.Word.{Word}
+use Rattle.store.specs.Layout.{sizeIn}
+use Rattle.store.specs.Good.{ruleIn, Good}
+use Rattle.store.specs.Side.{endOf}
+use Rattle.store.specs.declared.letters.Side.{Side}
+use Rattle.walk.specs.Walk.{seenIn, Stepped}
+use Rattle.walk.specs.Replay.{Frames, lettersTowards, Holds}
+use Rattle.walk.specs.declared.replay.Frame.{Frame}
+use Rattle.walk.proofs.Stores.{framed-letters, framed-rule, framed-within}
+use Rattle.walk.proofs.Reading.{good-chain, good-step}
+use Rattle.walk.proofs.replay.next.Statement.{statement}
+use Rattle.walk.proofs.replay.next.Tie as tie
+
+-- the step over the letters that the frame shows
+stepped : {b : Word} {f : Frame} → Good b → Frames b f → (side : Side) (k row d q : ℕ) → k < sizeIn b → Holds b (lettersTowards b (endOf side)) k row
+    → d ≡ getD (seenIn b (f .reading) (f .base) (f .n) side) k 0 → Stepped b (seenIn b (f .reading) (f .base) (f .n) side) k d (ruleIn (f .reading) d) row q
+    → Holds b (lettersTowards b (endOf side)) (k + 1) q
+stepped {b} g h side k row d q l a e s =
+    let same = framed-letters h side in
+    good-step g (endOf side) k row q d l (e ∙ ap (λ (t : Word). getD t k 0) same) a
+    (subst₂ (λ (t : Word) (want : ℕ). Stepped b t k d want row q) same (framed-rule h d) s)
+
+seen-requires : tie.Need-seen-requires
+seen-requires c κs =
+    let p = c .before .before .pre in
+    let w = framed-within (c .frame-of .ensures) (p .0 .sized) (c .before .before .args .k + 1) (omega arith) in
+    (w .letters, omega (arith, w .read))
+
+step-requires : tie.Need-step-requires
+step-requires c κs =
+    let p = c .before .before .before .pre in
+    (framed-within (c .before .frame-of .ensures) (p .0 .sized) (c .before .before .before .args .k) (omega arith), good-chain (p .0) (c .before .before .before .args .row) (p .1 .1 .used))
+
+returns : tie.Need-returns
+returns c =
+    let a = c .before .before .before .before .args in
+    let p = c .before .before .before .before .pre in
+    stepped (p .0) (c .before .before .frame-of .ensures) (a .side) (a .k) (a .row) (c .before .seen .result) (c .step .result) (p .1 .0) (p .1 .1) (c .before .seen .ensures) (c .step .ensures)
+
+pub next-spec : {M : Type 1} → statement M
+next-spec = tie.close (tie.spec (λ c κs. search needs) seen-requires step-requires returns)

@@ -1,0 +1,73 @@
+-- `walk::walk` finds the first row along the links that faces the wanted letter. The loop's invariant (`Turn`): from the row that it has come to the links lead down to row 0, and what the
+-- walk finds from there it finds from the start. The measure is the row's stored length, which falls along the links. Assumes nothing.
+use Prim.Native.Nat.{ℕ}
+use native.Mathlib.Omega.{arith}
+use borrow.Author.Needs.{needs}
+use mathlib.Core.Path.{_≡_, refl, sym, _∙_, subst}
+use mathlib.Core.Bool.{Bool, true, false}
+use Rattle.palindromes.specs.Word.{Word}
+use Rattle.store.specs.Layout.{cell, linkIn}
+use Rattle.store.specs.Good.{ruleIn}
+use Rattle.walk.specs.declared.Walked.{Walked}
+use Rattle.walk.specs.declared.Walked.the-variants.{At, Nothing}
+use Rattle.walk.specs.Walk.{seenIn, facesAt, Chain, Meets, letter, nothing, here, onward}
+use Rattle.walk.proofs.Chains.{chain-fits, chain-next}
+use Rattle.walk.proofs.walk.Statement.{statement}
+use Rattle.walk.proofs.walk.Tie as tie
+
+-- what holds at the row that the walk has come to
+record Turn (b t : Word) (k d want start row : ℕ) : Type 0 where
+  chain : Chain b row
+  back : (o : Walked) → Meets b t k d want row o → Meets b t k d want start o
+
+abbrev Inv-loop : tie.InvT-loop
+Inv-loop b reading base n side k start d want row₀ row = Turn b (seenIn b reading base n side) k d (ruleIn reading d) start row
+
+abbrev μ-loop : tie.MeasureT-loop
+μ-loop b reading base n side k start d want row₀ row = cell b row 0
+
+module _ {b t : Word} {k d want start row : ℕ} (h : Turn b t k d want start row) (n : row ≡ 0 → ⊥) (x : Bool) (w : ℕ) (e : w ≡ want) (f : x ≡ facesAt b t k w row) where
+  -- the walk ends at a row that faces the wanted letter
+  turn-here : x ≡ true → Meets b t k d want start (At row)
+  turn-here g = h .back (At row) (here n (cc) refl)
+
+  -- else it goes on to the row's link
+  turn-on : x ≡ false → (q : ℕ) → q ≡ linkIn b row → Turn b t k d want start q
+  turn-on g q l =
+      let miss : facesAt b t k want row ≡ false = cc in
+      subst (Turn b t k d want start) (sym l) (record { chain = chain-next (h .chain) n .1; back = λ o m. h .back o (onward n miss m) })
+
+loop-holds : tie.Need-loop-holds Inv-loop μ-loop
+loop-holds c = record { chain = c .before .before .pre .1; back = λ o m. m }
+
+faces-requires : tie.Need-faces-requires Inv-loop μ-loop
+faces-requires c κs =
+    let h = c .before .loop .inv .chain in
+    (c .before .before .before .before .pre .0, (chain-fits h, omega (arith, chain-next h (c .loop-test .taken) .0)))
+
+returns : tie.Need-returns Inv-loop μ-loop
+returns c =
+    turn-here (c .before .before .before .loop .inv) (c .before .before .loop-test .taken) (c .before .faces .result) (c .before .before .before .before .partner .result)
+    (c .before .before .before .before .partner .ensures) (c .before .faces .ensures) (c .if1 .taken)
+
+link-of-requires : tie.Need-link-of-requires Inv-loop μ-loop
+link-of-requires c κs = chain-fits (c .before .before .before .loop .inv .chain)
+
+loop-less : tie.Need-loop-less Inv-loop μ-loop
+loop-less c = rw (c .link-of .ensures .0) (chain-next (c .before .before .before .before .loop .inv .chain) (c .before .before .before .loop-test .taken) .0)
+
+loop-again : tie.Need-loop-again Inv-loop μ-loop
+loop-again c =
+    turn-on (c .before .before .before .before .loop .inv) (c .before .before .before .loop-test .taken) (c .before .before .faces .result) (c .before .before .before .before .before .partner .result)
+    (c .before .before .before .before .before .partner .ensures) (c .before .before .faces .ensures) (c .before .if1 .left) (c .link-of .result) (c .link-of .ensures .0)
+
+returns-2 : tie.Need-returns-2 Inv-loop μ-loop
+returns-2 c = c .before .before .loop .inv .back (At 0) (letter (c .before .loop-test .left) (sym (c .before .before .before .partner .ensures) ∙ c .if2 .taken) refl)
+
+returns-3 : tie.Need-returns-3 Inv-loop μ-loop
+returns-3 c = c .before .before .loop .inv .back Nothing (nothing (c .before .loop-test .left) (λ e. c .if2 .left (c .before .before .before .partner .ensures ∙ e)) refl)
+
+pub walk-spec : {M : Type 1} → statement M
+walk-spec =
+    tie.close
+    (tie.spec Inv-loop μ-loop (λ c κs. search needs) loop-holds faces-requires returns link-of-requires loop-less loop-again returns-2 returns-3)

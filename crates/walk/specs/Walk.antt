@@ -1,0 +1,46 @@
+-- What the contracts of src/ say of a walk, in terms of the store's bytes alone; that it finds the longest palindrome is proved in proofs/.
+-- b is the store, t the letters as they are read towards the call's side, k how many of them have been read, d the next letter and want its partner.
+use Prim.Native.Nat.{ℕ, _+_, _*_, _-_, _≤_, _<_}
+use mathlib.Core.Path.{_≡_}
+use mathlib.Core.Bool.{Bool, true, false, _&&_}
+use lib.Dec.{leb, eqb}
+use lib.ListN.{length, getD, take, drop}
+use Rattle.palindromes.specs.Word.{Word}
+use Rattle.store.specs.Layout.{cell, linkIn, edgeIn}
+use Rattle.store.specs.Good.{ruleIn}
+use Rattle.store.specs.Side.{endOf}
+use Rattle.store.specs.Writes.{towards}
+use Rattle.store.specs.declared.letters.Side.{Side}
+use Rattle.walk.specs.declared.Walked.{Walked}
+use Rattle.walk.specs.declared.Walked.the-variants.{At, Nothing}
+
+-- the n letters at base, read towards a side
+abbrev pub seenIn : Word → ℕ → ℕ → ℕ → Side → Word
+seenIn b reading base n side = towards (ruleIn reading) (endOf side) (take n (drop base b))
+
+-- the n letters at base lie within the store, and k of them have been read
+pub record Within (b : Word) (base n k : ℕ) : Type 0 where
+  pub letters : base + n ≤ length b
+  pub read : k ≤ n
+  pub small : n < 65536
+
+-- the letter just before the palindrome of row r, which ends the first k letters, is `want`
+abbrev pub facesAt : Word → Word → ℕ → ℕ → ℕ → Bool
+facesAt b t k want r = leb (cell b r 0) k && eqb (getD t (k - cell b r 0) 0) want
+
+-- the rows from r along the links lie within the store, their stored lengths fall, and the last is row 0
+pub data Chain (b : Word) : ℕ → Type 0 where
+  root : {r : ℕ} → r ≡ 0 → 24 ≤ length b → Chain b r
+  further : {r : ℕ} → 24 * r + 24 ≤ length b → cell b (linkIn b r) 0 < cell b r 0 → Chain b (linkIn b r) → Chain b r
+
+-- the first row from r along the links that faces the wanted letter; row 0 faces the new letter itself
+pub data Meets (b t : Word) (k d want : ℕ) : ℕ → Walked → Type 0 where
+  letter : {r : ℕ} {o : Walked} → r ≡ 0 → want ≡ d → o ≡ At 0 → Meets b t k d want r o
+  nothing : {r : ℕ} {o : Walked} → r ≡ 0 → (want ≡ d → ⊥) → o ≡ Nothing → Meets b t k d want r o
+  here : {r : ℕ} {o : Walked} → (r ≡ 0 → ⊥) → facesAt b t k want r ≡ true → o ≡ At r → Meets b t k d want r o
+  onward : {r : ℕ} {o : Walked} → (r ≡ 0 → ⊥) → facesAt b t k want r ≡ false → Meets b t k d want (linkIn b r) o → Meets b t k d want r o
+
+-- the row q at the edge of the row that the walk meets, and row 1 where it meets none
+pub data Stepped (b t : Word) (k d want start q : ℕ) : Type 0 where
+  grown : (u : ℕ) → Meets b t k d want start (At u) → q ≡ edgeIn b u d → Stepped b t k d want start q
+  ended : Meets b t k d want start Nothing → q ≡ 1 → Stepped b t k d want start q
