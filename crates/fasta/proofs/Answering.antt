@@ -39,6 +39,7 @@ unfolding readFasta
 good-text [] n good length-is = absurd (true≢false (sym good ∙ empty-is-bad [] refl))
 good-text (b ∷ t) n good length-is = rw (length-is, good, readFasta)
 
+-- a fault is not a count
 no-fault-is-letters : (k m : ℕ) → Fault k ≡ Letters m → ⊥
 no-fault-is-letters k m e = let z : _≡_ {A = ℕ} 0 1 = cc in omega arith
 
@@ -67,7 +68,7 @@ unfolding readingOf writtenTo
 answers-refusal f k out says = rw says (refl, refl)
 
 module _ (f : Fasta) (n m : ℕ) (w out : Word) (says : f ≡ accepted n w) (many : length w ≡ m) where
-  -- nor does a buffer that is too short
+  -- too short a buffer is refused and stays
   pub answers-short : length out < m → Answers f out (Refused 9) out
   unfolding readingOf writtenTo
   answers-short short = rw (says, many, lt-ltb (length out) m short) (refl, refl)

@@ -1,9 +1,8 @@
 -- The pass that counts: at each place the letters counted and what the rest yields make the answer for all the lines, and each turn keeps that so.
 -- Rests on the laws of `LaterLines`. Assumes nothing.
-use Prim.Native.Nat.{ℕ, zero, suc, _+_, _-_, _≤_, _<_}
+use Prim.Native.Nat.{ℕ, suc, _+_, _-_, _≤_, _<_}
 use mathlib.Core.Path.{_≡_, refl, sym, ap, _∙_}
 use mathlib.Core.Bool.{Bool, true, false}
-use mathlib.Core.List.{_∷_}
 use native.Mathlib.Omega.{arith}
 use lib.ListN.{length, drop, getD}
 use Rattle.palindromes.specs.Word.{Word}

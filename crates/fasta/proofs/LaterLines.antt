@@ -1,6 +1,6 @@
 -- The definitions of the later lines, read at a place of the text: the kind of a byte by its tests, and what `readLines` makes of a byte of each kind.
 -- Both passes rest on it. Rests on `at-place`. Assumes nothing.
-use Prim.Native.Nat.{ℕ, zero, suc, _+_, _≤_, _<_}
+use Prim.Native.Nat.{ℕ, suc, _+_, _≤_, _<_}
 use mathlib.Core.Path.{_≡_, _∙_}
 use mathlib.Core.Bool.{Bool, true, false, _&&_, and-false}
 use mathlib.Core.Logic.{_⊎_, inl, inr}
@@ -9,7 +9,7 @@ use lib.Dec.{eqb}
 use lib.ListN.{length, drop, getD, drop-of-length-le}
 use borrow.Author.Tests.{ne-eqb}
 use Rattle.palindromes.specs.Word.{Word, isLetter}
-use Rattle.palindromes.specs.Fasta.{startsWithLf, Kind, secondHeader, lineEnd, beforeLf, letter, other, kindOf, Body, fault, letters, withLetter, readByte, readLines}
+use Rattle.palindromes.specs.Fasta.{startsWithLf, Kind, secondHeader, lineEnd, beforeLf, letter, other, kindOf, fault, letters, withLetter, readByte, readLines}
 use Rattle.fasta.proofs.Places.{at-place}
 
 -- a conjunction of which a half is false

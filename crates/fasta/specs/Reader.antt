@@ -20,16 +20,16 @@ writtenTo (refused n) out = out
 writtenTo (accepted n w) out = cond (ltb (length out) (length w)) out (sets out 0 w)
 
 -- the paper's number of an answer: 0 where the text is accepted
-unfoldable pub numberOf : Reading → ℕ
+abbrev pub numberOf : Reading → ℕ
 numberOf (Accepted n m) = zero
 numberOf (Refused n) = n
 
 -- the first value of an answer, the identifier's length: 0 for a refusal
-unfoldable pub firstOf : Reading → ℕ
+abbrev pub firstOf : Reading → ℕ
 firstOf (Accepted n m) = n
 firstOf (Refused n) = zero
 
 -- the second value of an answer, the number of letters: 0 for a refusal
-unfoldable pub secondOf : Reading → ℕ
+abbrev pub secondOf : Reading → ℕ
 secondOf (Accepted n m) = m
 secondOf (Refused n) = zero

@@ -7,6 +7,7 @@ ghost use lib.ListN.{length, drop};
 ghost use Rattle.palindromes.specs.Bed.{isIdentifierByte};
 ghost use Rattle.palindromes.specs.Fasta.{identifierLength, startsWithLf, endsIdentifier, goodFirstLine, afterFirstLine};
 
+// Whether the byte lies from low to high.
 fn within(low: u8, b: u8, high: u8) -> bool
     ensures { λ r. ⌜ r ≡ (leb low b && leb b high) ⌝ }
 {

@@ -72,7 +72,7 @@ pub fn count_letters(text: &[u8], start: usize) -> Tally
     Tally::Letters(n)
 }
 
-// Writes the letters of lines that were found good.
+// Writes the letters of lines that were found good, in which neither fault is met.
 pub fn write_letters(text: &[u8], start: usize, out: &mut [u8])
     requires { ⌜ readLines (drop start (now text)) true 1024 ≡ letters (lettersOf (readLines (drop start (now text)) true 1024)) ⌝ }
     requires { ⌜ length (lettersOf (readLines (drop start (now text)) true 1024)) ≤ length (now out) ⌝ }

@@ -1,6 +1,7 @@
 -- How a host call keeps its promise: a store that is not good is refused with 3, a call that a row of the table of numbers names is refused with that
 -- number, and any other is carried out. Rests on `Refusals`.
-use Prim.Native.Nat.{ℕ, suc}
+use Prim.Native.Nat.{ℕ, zero, suc}
+use native.Mathlib.Omega.{arith}
 use mathlib.Core.Path.{_≡_, refl, sym, _∙_, subst}
 use Rattle.palindromes.specs.Word.{Word}
 use Rattle.palindromes.specs.Refusal.{Call, opening, refusal}
@@ -8,12 +9,13 @@ use Rattle.store.specs.Good.{ruleOf, Good}
 use Rattle.outcome.specs.Reply.{packed, refusedWith}
 use Rattle.outcome.specs.Outcome.{Lent, Outcome, viewIn, outcome, acceptedOutcome, refusedOutcome, Answers}
 use Rattle.outcome.specs.Promise.{nothing, Left, Promise, OpeningPromise}
+use Rattle.outcome.specs.Verdict.{Verdict, damaged, judged}
 use Rattle.outcome.proofs.Refusals.{carried-out, refused-out}
 
 module _ (call : Call) (b : Word) (l : Lent) where
-  pub damaged : {r : ℕ} → (Good b → ⊥) → r ≡ packed (refusedWith 3) → Promise call b l r b l
+  broken : {r : ℕ} → (Good b → ⊥) → r ≡ packed (refusedWith 3) → Promise call b l r b l
   unfolding refusedOutcome
-  damaged n e =
+  broken n e =
       record {
         came = refusedOutcome 3 b l;
         answers = record { good = λ g. absurd (n g); damaged = λ m. refl };
@@ -30,6 +32,21 @@ module _ (call : Call) (b : Word) (l : Lent) where
 
   pub carried : {r : ℕ} {b′ : Word} {l′ : Lent} → Good b → refusal (ruleOf b) (viewIn b l) call ≡ 0 → Left (acceptedOutcome call b l) r b′ l′ → Promise call b l r b′ l′
   carried {r} {b′} {l′} g e f = kept g (subst (λ (o : Outcome). Left o r b′ l′) (sym (carried-out call b l e)) f)
+
+  -- ---- by a verdict
+
+  -- a call whose verdict is not 0 is refused with it
+  pub by-verdict : (n : ℕ) {r : ℕ} → Verdict call b l n → (n ≡ 0 → ⊥) → r ≡ packed (refusedWith n) → Promise call b l r b l
+  by-verdict n {r} (damaged h e) z p = broken h (subst (λ (m : ℕ). r ≡ packed (refusedWith m)) e p)
+  by-verdict zero (judged g e) z p = absurd (z refl)
+  by-verdict (suc n) (judged g e) z p = refused n g (sym e) p
+
+  -- a call whose verdict is 0 is carried out, on a good store
+  pub cleared : (n : ℕ) → Verdict call b l n → n ≡ 0 → Good b × (refusal (ruleOf b) (viewIn b l) call ≡ 0)
+  cleared n (damaged h e) z = absurd (omega arith)
+  cleared n (judged g e) z = (g, sym e ∙ z)
+
+-- ---- an opening
 
 module _ (k : ℕ) (b : Word) where
   pub opening-refused : (n : ℕ) {r : ℕ} → refusal (ruleOf b) (viewIn b nothing) (opening k) ≡ suc n → r ≡ packed (refusedWith (suc n)) → OpeningPromise k b r b

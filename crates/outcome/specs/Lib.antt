@@ -1,3 +1,4 @@
 pub mod Reply
 pub mod Outcome
 pub mod Promise
+pub mod Verdict

@@ -1,0 +1,65 @@
+-- A store that passes every test is good: the rows met are the rows in use, so the table covers the letters, and no edge of it leads anywhere else.
+-- Rests on `covers-shows` of eertree; that a good store passes every test is in Parts.antt, Visit.antt and Rows.antt.
+use Prim.Native.Nat.{ℕ, _+_, _-_, _≤_, _<_}
+use native.Mathlib.Omega.{arith}
+use mathlib.Core.Path.{_≡_, _∙_, subst, fun-ext}
+use mathlib.Core.Bool.{Bool, true}
+use Rattle.palindromes.specs.Word.{Word, allLetters}
+use Rattle.palindromes.specs.End.{End, atLeft, atRight, longestAt}
+use Rattle.palindromes.specs.Node.{spelt, around}
+use Rattle.palindromes.proofs.Lists.{same-test}
+use Rattle.eertree.proofs.Covers.{NodeOf, Covers, EdgesEnd, covers-shows}
+use Rattle.eertree.proofs.Replay.{withUsed}
+use Rattle.store.specs.Layout.{capacityIn, edgeIn, outerIn, usedIn, lettersIn}
+use Rattle.store.specs.Good.{ruleOf, tableIn, nodeIn, EndIs, RankIs, Good}
+use Rattle.updates.proofs.Rows.{used-below}
+use Rattle.audit.specs.Parts.{HeaderRight, FreePlaces, RootsRight, OrderRight}
+use Rattle.audit.specs.Tour.{metIn, Toured}
+use Rattle.audit.specs.Rows.{EdgeRight, nowhere, there, RowsRight, EndsRight}
+use Rattle.audit.specs.declared.tour.Tour.{Tour}
+
+module _ {b marks : Word} {t : Tour} (a : Toured b marks (lettersIn b) t) (rows : RowsRight b marks) where
+  -- the rows met are the rows in use
+  met-used : (r : ℕ) → metIn marks r ≡ usedIn b r
+  met-used r = same-test (metIn marks r) (usedIn b r) (a .used r) (λ u. rows r (used-below b r u) .met u)
+
+  table-covers : Covers (ruleOf b) (lettersIn b) (tableIn b) (nodeIn b)
+  table-covers = subst (λ (used : ℕ → Bool). Covers (ruleOf b) (lettersIn b) (withUsed used (tableIn b)) (nodeIn b)) (fun-ext met-used) (a .covers)
+
+  -- an edge leads to a row that holds the word around its row, or nowhere
+  table-ends : EdgesEnd (ruleOf b) (lettersIn b) (tableIn b) (nodeIn b)
+  table-ends r c u l n = by (rows r (used-below b r u) .edges u c l)
+    where
+      by : EdgeRight b marks r c → edgeIn b r c ≡ 0
+      by (nowhere e) = e
+      by (there p m) =
+          let e : nodeIn b (edgeIn b r c) ≡ spelt (around (ruleOf b) c (nodeIn b r)) = cc (a .covers .outer-is (edgeIn b r c) m (p .low), p .inner, p .outer) in
+          absurd (n (subst (NodeOf (ruleOf b) (lettersIn b)) e (a .covers .each-row (edgeIn b r c) m)))
+
+  table-end : EndsRight b t → (e : End) → EndIs b e
+  unfolding longestAt
+  table-end h atLeft = record { used = rw (h .left) (a .used (t .left) (a .left-met)); holds = rw (h .left) (a .left-holds) }
+  table-end h atRight = record { used = rw (h .right) (a .used (t .row) (a .row-met)); holds = rw (h .right) (a .row-holds) }
+
+  -- all parts together are a good store
+  pub passed-good : HeaderRight b → allLetters (lettersIn b) ≡ true → FreePlaces b → RootsRight b → OrderRight b → EndsRight b t → Good b
+  unfolding outerIn
+  passed-good h letters places roots order ends =
+      record {
+        sized = h .sized;
+        reading = h .reading;
+        letters = letters;
+        table = covers-shows table-covers table-ends;
+        count-is = ends .count ∙ a .met-is;
+        ends = table-end ends;
+        order = λ i l. order i l .order;
+        rank = ranks;
+        free-rows = λ r f l u i. rows r l .free u f (omega arith) i;
+        root-letters = (roots .imaginary 3 (omega arith) (omega arith), roots .empty 3 (omega arith) (omega arith));
+        free-places = places;
+      }
+    where
+      ranks : (r : ℕ) → 2 ≤ r → r < capacityIn b + 2 → RankIs b r
+      ranks r l k =
+          let e : r - 2 + 2 ≡ r = omega arith in
+          subst (RankIs b) e (order (r - 2) (omega arith) .rank)

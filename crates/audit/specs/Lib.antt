@@ -1,0 +1,4 @@
+pub mod Decides
+pub mod Parts
+pub mod Tour
+pub mod Rows

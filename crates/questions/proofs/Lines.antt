@@ -1,0 +1,68 @@
+-- The list of palindromes as it is written while the letters are read: a letter more adds a line where the palindrome that ends there is met for the first time, and nothing else. No list of
+-- the first letters is longer than the whole, so a buffer with room for the whole has room for each line.
+-- Rests on `prefix-listing` of palindromes and on the marks (`Marking`).
+use Prim.Native.Nat.{ℕ, zero, suc, _+_, _-_, _≤_, _<_}
+use native.Mathlib.Omega.{arith}
+use native.Mathlib.Nat.{add-zero}
+use native.Mathlib.Numerals.{add-one}
+use mathlib.Core.Path.{_≡_, sym, ap, _∙_}
+use mathlib.Core.Bool.{Bool, true, false, _&&_, cond}
+use mathlib.Core.List.{[], _++_, append-nil}
+use lib.Dec.{leb}
+use lib.ListN.{length, take, length-append}
+use lib.Seq.{take-length}
+use borrow.Author.Tests.{leb-true, not-true, not-false}
+use Rattle.palindromes.specs.Word.{Word}
+use Rattle.palindromes.specs.Place.{stands}
+use Rattle.palindromes.specs.Bed.{allIdentifierBytes, isIdentifier, bedLine, listing}
+use Rattle.palindromes.proofs.Tests.{both-true}
+use Rattle.palindromes.proofs.Listing.{listing-empty, prefix-listing}
+use Rattle.store.specs.Layout.{sizeIn, lettersIn}
+use Rattle.store.specs.Good.{ruleOf, Good}
+use Rattle.updates.proofs.Rows.{letters-length}
+use Rattle.questions.specs.Marks.{endingIn, ReadOn}
+
+-- the list of the first k letters
+abbrev pub listed : Word → Word → ℕ → Word
+listed b name k = listing (ruleOf b) name (take k (lettersIn b))
+
+-- an identifier has at most 32 bytes
+pub identifier-length : (w : Word) → isIdentifier w ≡ true → length w ≤ 32
+unfolding isIdentifier
+identifier-length w h =
+    let f = both-true (leb 1 (length w) && leb (length w) 32) (allIdentifierBytes w) h .0 in
+    leb-true (length w) 32 (both-true (leb 1 (length w)) (leb (length w) 32) f .1)
+
+module _ {b : Word} (g : Good b) (name : Word) where
+  -- before the first letter it is empty
+  pub listed-none : listed b name 0 ≡ []
+  listed-none = listing-empty (ruleOf b) name
+
+  -- after the last it is the whole
+  pub listed-all : (k : ℕ) → k ≡ sizeIn b → listed b name k ≡ listing (ruleOf b) name (lettersIn b)
+  listed-all k e = let f : k ≡ length (lettersIn b) = e ∙ sym (letters-length (g .sized)) in cc (take-length (lettersIn b))
+
+  module _ (k : ℕ) (l : k < sizeIn b) where
+    more : listed b name (k + 1) ≡ listed b name k ++ cond (stands (endingIn b (k + 1)) (take k (lettersIn b))) [] (bedLine name (k + 1 - length (endingIn b (k + 1))) (k + 1))
+    more = cc (add-one k, prefix-listing (ruleOf b) name (lettersIn b) k (omega (arith, letters-length (g .sized))))
+
+    pub listed-longer : length (listed b name k) ≤ length (listed b name (k + 1))
+    listed-longer =
+        omega (arith, ap length more, length-append (listed b name k) (cond (stands (endingIn b (k + 1)) (take k (lettersIn b))) [] (bedLine name (k + 1 - length (endingIn b (k + 1))) (k + 1))))
+
+    module _ {old marks : Word} {row start : ℕ} {first : Bool} (a : ReadOn b k old row start first marks) where
+      -- a palindrome met for the first time adds its line
+      pub listed-new : first ≡ true → listed b name (k + 1) ≡ listed b name k ++ bedLine name start (k + 1)
+      listed-new e = cc (more, a .start-is, not-true (stands (endingIn b (k + 1)) (take k (lettersIn b))) (sym (a .first-is) ∙ e))
+
+      -- any other nothing
+      pub listed-old : first ≡ false → listed b name (k + 1) ≡ listed b name k
+      listed-old e = cc (more, append-nil (listed b name k), not-false (stands (endingIn b (k + 1)) (take k (lettersIn b))) (sym (a .first-is) ∙ e))
+
+  -- no list of the first letters is longer than the whole
+  pub listed-most : (k : ℕ) → k ≤ sizeIn b → length (listed b name k) ≤ length (listing (ruleOf b) name (lettersIn b))
+  listed-most k h = go (sizeIn b - k) k (omega arith)
+    where
+      go : (d k : ℕ) → k + d ≡ sizeIn b → length (listed b name k) ≤ length (listing (ruleOf b) name (lettersIn b))
+      go zero k e = omega (arith, ap length (listed-all k (sym (add-zero k) ∙ e)))
+      go (suc d) k e = omega (arith, listed-longer k (omega arith), go d (k + 1) (omega arith))

@@ -1,0 +1,61 @@
+// The search for a piece among the palindromes of the record.
+use store::header;
+use store::letters::partner;
+use store::rows;
+use store::rows::Row;
+ghost use mathlib.Core.Path.{_≡_};
+ghost use mathlib.Core.Bool.{true, cond};
+ghost use Prim.Native.Nat.{_<_, _%_};
+ghost use lib.Dec.{eqb};
+ghost use lib.ListN.{length};
+ghost use Rattle.palindromes.specs.Word.{allLetters, member};
+ghost use Rattle.palindromes.specs.Record.{palindromes};
+ghost use Rattle.palindromes.specs.Node.{spelt};
+ghost use Rattle.store.specs.Layout.{lettersIn};
+ghost use Rattle.store.specs.Good.{ruleOf, Good};
+ghost use Rattle.updates.specs.Rows.{rowOf};
+ghost use Rattle.questions.specs.Find.{foundOf};
+
+// The row of a palindrome of the record, or that the piece is none.
+pub enum Found {
+    At(usize),
+    Absent,
+}
+
+// The row in the centre of a palindrome of n letters: the empty string's for an even number, the
+// imaginary string's for an odd one.
+fn centre(n: usize) -> usize
+    ensures { λ r. ⌜ r ≡ cond (eqb (n % 2) 0) 1 0 ⌝ }
+{
+    if n % 2 == 0 {
+        return Row::EMPTY;
+    }
+    Row::IMAGINARY
+}
+
+// Searches from the centre outwards: at each place of the right half the letter that faces it must
+// be its partner, and the row so far must have an edge by it.
+pub fn find(b: &[u8], piece: &[u8]) -> Found
+    requires { ⌜ Good (now b) ⌝ }
+    requires { ⌜ (0 < length (now piece)) × (allLetters (now piece) ≡ true) ⌝ }
+    ensures { λ r. ⌜ r ≡ foundOf (member (now (piece .entry)) (palindromes (ruleOf (now (b .entry))) (lettersIn (now (b .entry))))) (rowOf (now (b .entry)) (spelt (now (piece .entry)))) ⌝ }
+{
+    if header::size(b) < piece.len() {
+        return Found::Absent;
+    }
+    let reading = header::reading(b);
+    let mut row = centre(piece.len());
+    let mut k = piece.len() / 2;
+    while k < piece.len() {
+        let c = piece[k];
+        if piece[piece.len() - 1 - k] != partner(reading, c) {
+            return Found::Absent;
+        }
+        row = rows::edge_of(b, row, c);
+        if row == Row::IMAGINARY {
+            return Found::Absent;
+        }
+        k += 1;
+    }
+    Found::At(row)
+}

@@ -1,0 +1,104 @@
+// The list of the record's palindromes as BED lines, each at its first place, ordered by end.
+use super::marks::meet;
+use bed::line_length;
+use bed::put_line;
+use store::header;
+use store::rows::Row;
+ghost use mathlib.Core.Path.{_≡_};
+ghost use mathlib.Core.Bool.{true};
+ghost use Prim.Native.Nat.{_*_, _≤_, _<_};
+ghost use lib.ListN.{length, replicate};
+ghost use lib.Seq.{sets};
+ghost use Rattle.palindromes.specs.Word.{Word};
+ghost use Rattle.palindromes.specs.Bed.{isIdentifier, listing};
+ghost use Rattle.store.specs.Layout.{sizeIn, lettersIn};
+ghost use Rattle.store.specs.Good.{ruleOf, Good};
+ghost use Rattle.questions.specs.Marks.{ReadTo};
+
+// Makes the first n bytes nought.
+fn clear(bytes: &mut [u8], n: usize)
+    requires { ⌜ n ≤ length (now bytes) ⌝ }
+    ensures { λ _. ⌜ now (bytes .exit) ≡ sets (now (bytes .entry)) 0 (replicate n 0) ⌝ }
+{
+    let mut i = 0;
+    while i < n {
+        bytes[i] = 0;
+        i += 1;
+    }
+}
+
+// Adds up the lengths of the lines, with marks that begin empty.
+fn add_lines(b: &[u8], name: &[u8], marks: &mut [u8]) -> usize
+    requires { ⌜ Good (now b) ⌝ }
+    requires { ⌜ isIdentifier (now name) ≡ true ⌝ }
+    requires { ⌜ ReadTo (now b) 0 1 (now marks) ⌝ }
+    ensures { λ r. ⌜ r ≡ length (listing (ruleOf (now (b .entry))) (now (name .entry)) (lettersIn (now (b .entry)))) ⌝ }
+{
+    let n = header::size(b);
+    let mut row = Row::EMPTY;
+    let mut total = 0;
+    let mut k = 0;
+    while k < n {
+        let met = meet(b, k, row, marks);
+        row = met.row;
+        k += 1;
+        if met.first {
+            total += line_length(name, met.start, k);
+        }
+    }
+    total
+}
+
+// How many bytes the list has.
+pub fn listing_length(b: &[u8], name: &[u8]) -> usize
+    requires { ⌜ Good (now b) ⌝ }
+    requires { ⌜ isIdentifier (now name) ≡ true ⌝ }
+    ensures { λ r. ⌜ r ≡ length (listing (ruleOf (now (b .entry))) (now (name .entry)) (lettersIn (now (b .entry)))) ⌝ }
+{
+    let mut marks = [0u8; 1024];
+    add_lines(b, name, &mut marks)
+}
+
+// Writes the lines at the front of the buffer, with marks that begin empty, and answers the place
+// behind them.
+fn put_lines(b: &[u8], name: &[u8], marks: &mut [u8], out: &mut [u8]) -> usize
+    requires { ⌜ Good (now b) ⌝ }
+    requires { ⌜ isIdentifier (now name) ≡ true ⌝ }
+    requires { ⌜ ReadTo (now b) 0 1 (now marks) ⌝ }
+    requires { ⌜ length (listing (ruleOf (now b)) (now name) (lettersIn (now b))) ≤ length (now out) ⌝ }
+    ensures written { λ _. ⌜ now (out .exit) ≡ sets (now (out .entry)) 0 (listing (ruleOf (now (b .entry))) (now (name .entry)) (lettersIn (now (b .entry)))) ⌝ }
+    ensures behind { λ r. ⌜ r ≡ length (listing (ruleOf (now (b .entry))) (now (name .entry)) (lettersIn (now (b .entry)))) ⌝ }
+    ensures kept { λ _. ⌜ ((w : Word) → sizeIn (now (b .entry)) ≤ length w → sets (now (marks .exit)) 0 w ≡ sets (now (marks .entry)) 0 w) ⌝ }
+{
+    let n = header::size(b);
+    let mut row = Row::EMPTY;
+    let mut at = 0;
+    let mut k = 0;
+    while k < n {
+        let met = meet(b, k, row, marks);
+        row = met.row;
+        k += 1;
+        if met.first {
+            at = put_line(out, at, name, met.start, k);
+        }
+    }
+    at
+}
+
+// Writes the list at the front of `out` and answers how many bytes it has. Of the scratch, four
+// bytes for each letter serve as marks and are left nought.
+pub fn list(b: &[u8], name: &[u8], scratch: &mut [u8], out: &mut [u8]) -> usize
+    requires { ⌜ Good (now b) ⌝ }
+    requires { ⌜ isIdentifier (now name) ≡ true ⌝ }
+    requires { ⌜ 4 * sizeIn (now b) ≤ length (now scratch) ⌝ }
+    requires { ⌜ length (listing (ruleOf (now b)) (now name) (lettersIn (now b))) ≤ length (now out) ⌝ }
+    ensures cleared { λ _. ⌜ now (scratch .exit) ≡ sets (now (scratch .entry)) 0 (replicate (4 * length (lettersIn (now (b .entry)))) 0) ⌝ }
+    ensures written { λ _. ⌜ now (out .exit) ≡ sets (now (out .entry)) 0 (listing (ruleOf (now (b .entry))) (now (name .entry)) (lettersIn (now (b .entry)))) ⌝ }
+    ensures behind { λ r. ⌜ r ≡ length (listing (ruleOf (now (b .entry))) (now (name .entry)) (lettersIn (now (b .entry)))) ⌝ }
+{
+    let used = 4 * header::size(b);
+    clear(scratch, used);
+    let at = put_lines(b, name, scratch, out);
+    clear(scratch, used);
+    at
+}
