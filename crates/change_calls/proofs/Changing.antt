@@ -1,0 +1,162 @@
+-- What an opening, an addition and a removal promise, on plain values: the verdict, and what is left where the call is carried out.
+use Prim.Native.Nat.{ℕ, suc, _+_, _*_, _≤_, _<_}
+use mathlib.Core.Path.{_≡_, refl, sym, ap, ap₂, _∙_, subst}
+use mathlib.Core.Bool.{Bool, true, false, cond, _&&_}
+use mathlib.Core.List.{List, []}
+use native.Mathlib.Omega.{arith}
+use lib.Dec.{leb}
+use lib.ListN.{length}
+use borrow.Author.Tests.{le-leb, lt-leb, leb-true, leb-false}
+use Rattle.palindromes.specs.Word.{Word, isLetter}
+use Rattle.palindromes.specs.End.{End, letterAt}
+use Rattle.palindromes.specs.Node.{spelt}
+use Rattle.palindromes.specs.Refusal.{opening, add, remove, storeSize, refusal}
+use Rattle.palindromes.proofs.Tests.{both-are, not-true-false, decided}
+use Rattle.palindromes.proofs.Words.{no-letters}
+use Rattle.store.specs.Layout.{capacityIn, sizeIn, endRow, lettersIn}
+use Rattle.store.specs.Good.{ruleOf, Good}
+use Rattle.updates.specs.Rows.{rowOf, freeRow}
+use Rattle.updates.specs.Opening.{opened}
+use Rattle.updates.specs.Addition.{longestAfter, bringsIn, rowAfter, afterAddition}
+use Rattle.updates.specs.Removal.{longestBefore, takesOut, afterRemoval}
+use Rattle.updates.proofs.Letters.{letter-byte}
+use Rattle.updates.proofs.Rows.{letters-length, end-row, end-small, free-row, row-small}
+use Rattle.changes.specs.declared.addition.Added.the-variants.{New, Known}
+use Rattle.changes.specs.declared.removal.Removed.the-variants.{Gone, Kept}
+use Rattle.changes.specs.Answers.{addedOf, removedOf}
+use Rattle.outcome.specs.Reply.{packed, accepted, refusedWith}
+use Rattle.outcome.specs.Outcome.{viewIn, acceptedOutcome, changed}
+use Rattle.outcome.specs.Promise.{nothing, Left, Promise, OpeningPromise}
+use Rattle.outcome.specs.Verdict.{Verdict, damaged, judged}
+use Rattle.outcome.proofs.Refusals.{add-letter, add-full, add-accepted, remove-empty, remove-accepted, opening-capacity, opening-short, opening-accepted}
+use Rattle.outcome.proofs.Promises.{by-verdict, cleared, carried, opening-refused, opening-carried}
+
+-- ---- an opening
+
+within : (k : ℕ) → 1 ≤ k → k ≤ 1024 → (leb 1 k && leb k 1024) ≡ true
+within k p q = both-are (leb 1 k) (leb k 1024) (le-leb 1 k p) (le-leb k 1024 q)
+
+pub too-small : (k : ℕ) (b : Word) {r : ℕ} → k < 1 → r ≡ packed (refusedWith 1) → OpeningPromise k b r b
+too-small k b h e = opening-refused k b 0 (opening-capacity b nothing k (ap (λ (t : Bool). t && leb k 1024) (lt-leb 1 k h))) e
+
+pub too-large : (k : ℕ) (b : Word) {r : ℕ} → 1 ≤ k → 1024 < k → r ≡ packed (refusedWith 1) → OpeningPromise k b r b
+too-large k b l h e = opening-refused k b 0 (opening-capacity b nothing k (ap₂ (λ (t u : Bool). t && u) (le-leb 1 k l) (lt-leb k 1024 h))) e
+
+pub too-short : (k : ℕ) (b : Word) {r : ℕ} → 1 ≤ k → k ≤ 1024 → length b < 48 * k + 256 → r ≡ packed (refusedWith 2) → OpeningPromise k b r b
+unfolding storeSize
+too-short k b p q h e = opening-refused k b 1 (opening-short b nothing k (within k p q) h) e
+
+pub room-for : (k : ℕ) (b : Word) → 48 * k + 256 ≤ length b → storeSize k ≤ length b
+unfolding storeSize
+room-for k b h = h
+
+pub opened-up : (k : ℕ) (b : Word) {r : ℕ} {b′ : Word} → 1 ≤ k → k ≤ 1024 → 48 * k + 256 ≤ length b → r ≡ packed (accepted false 0 0 0) → b′ ≡ opened k b → OpeningPromise k b r b′
+unfolding acceptedOutcome changed storeSize
+opened-up k b p q h e f = opening-carried k b (opening-accepted b nothing k (within k p q) h) (record { reply = e; store = f; lent = refl })
+
+-- ---- an addition
+
+pub not-letter : (e : End) (c : ℕ) (b : Word) → Good b → isLetter c ≡ false → Verdict (add e c) b nothing 4
+not-letter e c b g h = judged g (sym (add-letter b nothing e c h))
+
+pub is-full : (e : End) (c : ℕ) (b : Word) → Good b → isLetter c ≡ true → capacityIn b ≤ sizeIn b → Verdict (add e c) b nothing 5
+is-full e c b g h k = judged g (sym (add-full b nothing e c h (omega (arith, letters-length (g .sized)))))
+
+pub can-add : (e : End) (c : ℕ) (b : Word) → Good b → isLetter c ≡ true → sizeIn b < capacityIn b → Verdict (add e c) b nothing 0
+can-add e c b g h k = judged g (sym (add-accepted b nothing e c h (omega (arith, letters-length (g .sized)))))
+
+-- what a verdict of 0 tells
+pub record Addable (e : End) (c : ℕ) (b : Word) : Type 0 where
+  pub good : Good b
+  pub letter : isLetter c ≡ true
+  pub room : sizeIn b < capacityIn b
+  pub clear : refusal (ruleOf b) (viewIn b nothing) (add e c) ≡ 0
+
+pub addable : (e : End) (c : ℕ) (b : Word) (n : ℕ) → Verdict (add e c) b nothing n → n ≡ 0 → Addable e c b
+addable e c b n v z =
+    let h = cleared (add e c) b nothing n v z in
+    let l : isLetter c ≡ true = letter (h .1) (isLetter c) refl in
+    record { good = h .0; letter = l; room = space (h .0) l (h .1) (leb (capacityIn b) (sizeIn b)) refl; clear = h .1 }
+  where
+    letter : refusal (ruleOf b) (viewIn b nothing) (add e c) ≡ 0 → (t : Bool) → isLetter c ≡ t → isLetter c ≡ true
+    letter k true x = x
+    letter k false x = absurd (omega (arith, add-letter b nothing e c x))
+
+    space : Good b → isLetter c ≡ true → refusal (ruleOf b) (viewIn b nothing) (add e c) ≡ 0 → (t : Bool) → leb (capacityIn b) (sizeIn b) ≡ t → sizeIn b < capacityIn b
+    space g l k true x = absurd (omega (arith, add-full b nothing e c l (omega (arith, leb-true (capacityIn b) (sizeIn b) x, letters-length (g .sized)))))
+    space g l k false x = leb-false (capacityIn b) (sizeIn b) x
+
+pub free-small : (e : End) (c : ℕ) (b : Word) → Addable e c b → freeRow b < 65536
+free-small e c b a = row-small (a .good) (freeRow b) (free-row (a .good) (a .room) .1)
+
+pub letter-small : (c : ℕ) → isLetter c ≡ true → c < 256
+letter-small c h = letter-byte c h
+
+pub added : (e : End) (c : ℕ) (b : Word) (t : Bool) {r : ℕ} {b′ : Word} → Addable e c b → bringsIn e c b ≡ t → r ≡ packed (accepted t (cond t (freeRow b) 0) 0 0) → b′ ≡ afterAddition e c b
+    → Promise (add e c) b nothing r b′ nothing
+unfolding acceptedOutcome changed rowAfter
+added e c b t {r} a h p q = carried (add e c) b nothing (a .good) (a .clear) (record { reply = p ∙ go t h; store = q; lent = refl })
+  where
+    go : (t : Bool) → bringsIn e c b ≡ t → packed (accepted t (cond t (freeRow b) 0) 0 0) ≡ packed (accepted (bringsIn e c b) (cond (bringsIn e c b) (rowAfter e c b) 0) 0 0)
+    go true k = ap (λ (x : Bool). packed (accepted x (cond x (cond x (freeRow b) (rowOf b (spelt (longestAfter e c b)))) 0) 0 0)) (sym k)
+    go false k = ap (λ (x : Bool). packed (accepted x (cond x (cond x (freeRow b) (rowOf b (spelt (longestAfter e c b)))) 0) 0 0)) (sym k)
+
+-- what an answer tells of the definition behind it
+pub told-new : (t : Bool) (f : ℕ) (row : ℕ) → New row ≡ addedOf t f → (t ≡ true) × (row ≡ f)
+told-new true f row e = (refl, cc)
+told-new false f row e = absurd (let z : _≡_ {A = ℕ} 0 1 = cc in omega arith)
+
+pub told-known : (t : Bool) (f : ℕ) → Known ≡ addedOf t f → t ≡ false
+told-known true f e = absurd (let z : _≡_ {A = ℕ} 0 1 = cc in omega arith)
+told-known false f e = refl
+
+pub new-packs : (e : End) (c : ℕ) (b : Word) (row : ℕ) → Addable e c b → New row ≡ addedOf (bringsIn e c b) (freeRow b) → (row < 65536) × (0 < 65536) × (0 < 65536)
+new-packs e c b row a h = let t = told-new (bringsIn e c b) (freeRow b) row h in (omega (arith, free-small e c b a, t .1), omega arith, omega arith)
+
+-- ---- a removal
+
+pub no-letter : (e : End) (b : Word) → Good b → sizeIn b ≡ 0 → Verdict (remove e) b nothing 6
+no-letter e b g h = judged g (sym (remove-empty b nothing e (no-letters (lettersIn b) (omega (arith, letters-length (g .sized))))))
+
+-- a record that has a letter is not the empty word
+some-letter : (b : Word) → Good b → (sizeIn b ≡ 0 → ⊥) → lettersIn b ≡ [] → ⊥
+some-letter b g n e = n (sym (letters-length (g .sized)) ∙ ap length e)
+
+pub can-remove : (e : End) (b : Word) → Good b → (sizeIn b ≡ 0 → ⊥) → Verdict (remove e) b nothing 0
+can-remove e b g n = judged g (sym (remove-accepted b nothing e (some-letter b g n)))
+
+pub record Removable (e : End) (b : Word) : Type 0 where
+  pub good : Good b
+  pub some : 0 < sizeIn b
+  pub clear : refusal (ruleOf b) (viewIn b nothing) (remove e) ≡ 0
+
+pub removable : (e : End) (b : Word) (n : ℕ) → Verdict (remove e) b nothing n → n ≡ 0 → Removable e b
+removable e b n v z =
+    let h = cleared (remove e) b nothing n v z in
+    record { good = h .0; some = some (h .0) (h .1) (leb (sizeIn b) 0) refl; clear = h .1 }
+  where
+    some : Good b → refusal (ruleOf b) (viewIn b nothing) (remove e) ≡ 0 → (t : Bool) → leb (sizeIn b) 0 ≡ t → 0 < sizeIn b
+    some g k true x = absurd (omega (arith, remove-empty b nothing e (no-letters (lettersIn b) (omega (arith, leb-true (sizeIn b) 0 x, letters-length (g .sized))))))
+    some g k false x = leb-false (sizeIn b) 0 x
+
+pub end-row-small : (e : End) (b : Word) → Removable e b → endRow b e < 65536
+end-row-small e b a = end-small (a .good) e
+
+pub removed : (e : End) (b : Word) (t : Bool) {r : ℕ} {b′ : Word} → Removable e b → takesOut e b ≡ t → r ≡ packed (accepted t (cond t (endRow b e) 0) (letterAt e (lettersIn b)) 0) → b′ ≡ afterRemoval e b
+    → Promise (remove e) b nothing r b′ nothing
+unfolding acceptedOutcome changed longestBefore
+removed e b t {r} a h p q = carried (remove e) b nothing (a .good) (a .clear) (record { reply = p ∙ row; store = q; lent = refl })
+  where
+    row : packed (accepted t (cond t (endRow b e) 0) (letterAt e (lettersIn b)) 0) ≡ packed (accepted (takesOut e b) (cond (takesOut e b) (rowOf b (spelt (longestBefore e b))) 0) (letterAt e (lettersIn b)) 0)
+    row = ap₂ (λ (x : Bool) (y : ℕ). packed (accepted x (cond x y 0) (letterAt e (lettersIn b)) 0)) (sym h) (end-row (a .good) e)
+
+pub told-gone : (t : Bool) (x f c row : ℕ) → Gone c row ≡ removedOf t x f → (t ≡ true) × (c ≡ x) × (row ≡ f)
+told-gone true x f c row e = (refl, cc, cc)
+told-gone false x f c row e = absurd (let z : _≡_ {A = ℕ} 0 1 = cc in omega arith)
+
+pub told-kept : (t : Bool) (x f c : ℕ) → Kept c ≡ removedOf t x f → (t ≡ false) × (c ≡ x)
+told-kept true x f c e = absurd (let z : _≡_ {A = ℕ} 0 1 = cc in omega arith)
+told-kept false x f c e = (refl, cc)
+
+pub gone-packs : (e : End) (b : Word) (c row n : ℕ) → Removable e b → Gone c row ≡ removedOf (takesOut e b) (letterAt e (lettersIn b)) (endRow b e) → n < 256 → (row < 65536) × (n < 65536) × (0 < 65536)
+gone-packs e b c row n a h m = let t = told-gone (takesOut e b) (letterAt e (lettersIn b)) (endRow b e) c row h in (omega (arith, end-row-small e b a, t .2), omega arith, omega arith)

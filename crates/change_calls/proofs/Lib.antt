@@ -1,0 +1,3 @@
+-- what the calls that change a record promise, on plain values
+pub mod Decided
+pub mod Changing
