@@ -1,6 +1,7 @@
 /* A sitting in C: two teams build ACGAAG from both ends, ask for its mirror repeats, and take a letter away again. */
 #include "mirror.h"
 #include <stdio.h>
+#include <string.h>
 
 static uint8_t store[MIRROR_STORE_SIZE(64)];
 
@@ -12,6 +13,7 @@ static uint64_t must(uint64_t answer)
 
 int main(void)
 {
+    uint8_t text[1024], scratch[4 * 64];
     const char *right = "AAG", *left = "GCA";
     uint64_t answer;
 
@@ -25,10 +27,14 @@ int main(void)
 
     answer = must(mirror_longest_right(store, sizeof store));
     unsigned row = mirror_row_of(answer);
-    answer = must(mirror_row(store, sizeof store, row));
-    printf("at the right end: row %u, %d letters, link to row %u\n", row, mirror_signed_first(answer), mirror_row_of(answer));
+    unsigned n = mirror_first(must(mirror_spell(store, sizeof store, row, text, sizeof text)));
+    printf("at the right end: %.*s%s\n", (int)n, (const char *)text, mirror_flag(answer) ? ", once only" : "");
+
+    n = mirror_first(must(mirror_list(store, sizeof store, (const uint8_t *)"e1", 2, scratch, sizeof scratch, text, sizeof text)));
+    fwrite(text, 1, n, stdout);
 
     answer = must(mirror_remove_right(store, sizeof store));
     printf("removed %c, row %u %s\n", mirror_first(answer), mirror_row_of(answer), mirror_flag(answer) ? "went" : "stays");
+    printf("GAAG is %s\n", mirror_flag(must(mirror_find(store, sizeof store, (const uint8_t *)"GAAG", 4))) ? "found" : "absent");
     return 0;
 }

@@ -26,7 +26,10 @@ enum {
     MIRROR_NO_LETTER = 4,   /* not A, C, G, T */
     MIRROR_FULL = 5,        /* record full */
     MIRROR_EMPTY = 6,       /* record empty */
-    MIRROR_NO_PLACE = 7     /* place not in record; row free or over capacity + 1 */
+    MIRROR_NO_PLACE = 7,    /* place not in record; row free or over capacity + 1 */
+    MIRROR_NO_PIECE = 8,    /* piece empty */
+    MIRROR_NO_ROOM = 9,     /* buffer shorter than needed */
+    MIRROR_IDENTIFIER = 10  /* identifier not 1 to 32 letters, digits or underscores */
 };
 
 uint64_t mirror_open(uint8_t *store, size_t length, uint64_t capacity);
@@ -41,6 +44,10 @@ uint64_t mirror_longest_left(const uint8_t *store, size_t length);
 uint64_t mirror_longest_right(const uint8_t *store, size_t length);
 uint64_t mirror_letter(const uint8_t *store, size_t length, uint64_t place);
 uint64_t mirror_row(const uint8_t *store, size_t length, uint64_t row);
+uint64_t mirror_spell(const uint8_t *store, size_t length, uint64_t row, uint8_t *out, size_t out_length);
+uint64_t mirror_find(const uint8_t *store, size_t length, const uint8_t *piece, size_t piece_length);
+uint64_t mirror_list(const uint8_t *store, size_t length, const uint8_t *identifier, size_t identifier_length,
+                     uint8_t *scratch, size_t scratch_length, uint8_t *out, size_t out_length);
 
 static inline unsigned mirror_refusal(uint64_t answer) { return (unsigned)(answer & 0xff); }
 static inline unsigned mirror_flag(uint64_t answer) { return (unsigned)(answer >> 8 & 0xff); }

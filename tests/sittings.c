@@ -1,5 +1,5 @@
-/* Long sittings through the C boundary, judged by the program that tries every stretch: every exported call, every
- * answer, every lent byte. The model knows the letters (from the arguments alone) and the row of each repeat (from the replies alone).
+/* Long sittings through the C boundary, judged by the program that tries every stretch: every call, every answer, every
+ * lent byte. The model knows the letters (from the arguments alone) and the row of each repeat (from the replies alone).
  * Usage: sittings [seed [sittings]] */
 #include "brute.h"
 #include "guard.h"
@@ -61,7 +61,12 @@ static unsigned row_of(const unsigned char *w, size_t n)
     return repeats[i].row;
 }
 
-/* one repeat: its row has the fields that its letters give */
+static uint64_t find(const unsigned char *w, size_t n)
+{
+    return mirror_find(store, store_length, guarded(0, w, n), n);
+}
+
+/* one repeat: found at its row, with the fields that its letters give, and spelt */
 static void check_repeat(size_t i)
 {
     const unsigned char *w = repeats[i].word;
@@ -69,9 +74,44 @@ static void check_repeat(size_t i)
     unsigned row = repeats[i].row;
     unsigned link_row = link ? row_of(w + n - link, link) : 1;
     unsigned inner_row = n == 1 ? 0 : n == 2 ? 1 : row_of(w + 1, n - 2);
+    uint8_t *out = guard_room(1, n);
 
+    same("find", packed(1, row, 0, 0), find(w, n));
     same("row", packed(0, link_row, (unsigned)n, inner_row), mirror_row(store, store_length, row));
     if (row < 2 || row > capacity + 1) fail("a row outside 2 to capacity + 1", 0, row);
+    same("spell", packed(0, 0, (unsigned)n, 0), mirror_spell(store, store_length, row, out, n));
+    if (memcmp(out, w, n) != 0) fail("spelt bytes", 0, 0);
+    if (n > 0) {
+        memset(out, 7, n);
+        same("spell, short", 9, mirror_spell(store, store_length, row, out, n - 1));
+        for (size_t k = 0; k < n; k++) same("spell, short: bytes", 7, out[k]);
+    }
+}
+
+static void check_list(void)
+{
+    static stretch list[MOST];
+    static char text[64 * 1024];
+    size_t n = brute_list(plain, letters, length, list), size = 0;
+    for (size_t i = 0; i < n; i++) size += (size_t)sprintf(text + size, "rec_%zu\t%zu\t%zu\n", n, list[i].start, list[i].end);
+    char name[32];
+    size_t name_length = (size_t)sprintf(name, "rec_%zu", n);
+    uint8_t *out = guard_room(1, size + 3), *scratch = guard_room(2, 4 * length + 2);
+    const uint8_t *identifier = guarded(0, (unsigned char *)name, name_length);
+
+    memset(out, 5, size + 3);
+    memset(scratch, 6, 4 * length + 2);
+    if (size > 0) same("list, output short", 9, mirror_list(store, store_length, identifier, name_length, scratch, 4 * length, out, size - 1));
+    if (length > 0) same("list, scratch short", 9, mirror_list(store, store_length, identifier, name_length, scratch, 4 * length - 1, out, size));
+    same("list, bad identifier", 10, mirror_list(store, store_length, identifier, 0, scratch, 4 * length, out, size));
+    for (size_t i = 0; i < size + 3; i++) same("list refused: output", 5, out[i]);
+    for (size_t i = 0; i < 4 * length + 2; i++) same("list refused: scratch", 6, scratch[i]);
+    same("list", packed(0, 0, (unsigned)size, 0), mirror_list(store, store_length, identifier, name_length, scratch, 4 * length + 2, out, size + 3));
+    facts++;
+    if (memcmp(out, text, size) != 0) fail("listed bytes", 0, 0);
+    for (size_t i = 0; i < 3; i++) same("list: output beyond", 5, out[size + i]);
+    for (size_t i = 0; i < 4 * length; i++) same("list: scratch", 0, scratch[i]);
+    for (size_t i = 0; i < 2; i++) same("list: scratch beyond", 6, scratch[4 * length + i]);
 }
 
 /* every question */
@@ -101,10 +141,16 @@ static void check_all(void)
         while (i < count && repeats[i].row != r) i++;
         if (i < count) continue;
         same("free row", 7, mirror_row(store, store_length, r));
+        same("free row spelt", 7, mirror_spell(store, store_length, r, guard_room(1, 4), 4));
     }
     same("row 0", packed(0, 0, 65535, 0), mirror_row(store, store_length, 0));
     same("row 1", packed(0, 0, 0, 0), mirror_row(store, store_length, 1));
     same("row 2^32 + 2", 7, mirror_row(store, store_length, (1ull << 32) + 2));
+    same("row 0 spelt", 0, mirror_spell(store, store_length, 0, guard_room(1, 0), 0));
+    same("row 1 spelt", 0, mirror_spell(store, store_length, 1, guard_room(1, 0), 0));
+    same("find nothing", 8, find((unsigned char *)"", 0));
+    same("find N", 4, find((unsigned char *)"ANA", 3));
+    check_list();
     unchanged("a question changed the store");
 }
 

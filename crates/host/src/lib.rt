@@ -1,8 +1,10 @@
 // The calls of a host in C, by the names of include/mirror.h. Each is one call of the record with its
 // side named; its promise holds for all bytes and all numbers.
 ghost use Rattle.palindromes.specs.End.{atLeft, atRight};
-ghost use Rattle.palindromes.specs.Refusal.{add, remove, askLength, askCount, askLongest, askLongestAt, askLetter, askRow};
+ghost use mathlib.Core.List.{[]};
+ghost use Rattle.palindromes.specs.Refusal.{add, remove, askLength, askCount, askLongest, askLongestAt, askLetter, askRow, spell, find, list};
 ghost use Rattle.outcome.specs.Promise.{nothing, Promise, OpeningPromise};
+ghost use Rattle.text_calls.specs.Lending.{lending};
 use store::letters::Side;
 
 // Opens an empty record of the given capacity.
@@ -99,4 +101,33 @@ pub extern "C" fn mirror_row(store: &[u8], row: u64) -> u64
     ensures { λ r. ⌜ Promise (askRow row) (now (store .entry)) nothing r (now (store .entry)) nothing ⌝ }
 {
     number_calls::row(store, row)
+}
+
+// Writes a row's repeat.
+#[no_mangle]
+pub extern "C" fn mirror_spell(store: &[u8], row: u64, out: &mut [u8]) -> u64
+    ensures { λ r. ⌜ Promise (spell row) (now (store .entry)) (lending [] (now (out .entry))) r (now (store .entry)) (lending [] (now (out .exit))) ⌝ }
+{
+    text_calls::spell_row(store, row, out)
+}
+
+// Whether a piece is a repeat of the record, and its row.
+#[no_mangle]
+pub extern "C" fn mirror_find(store: &[u8], piece: &[u8]) -> u64
+    ensures { λ r. ⌜ Promise (find (now (piece .entry))) (now (store .entry)) nothing r (now (store .entry)) nothing ⌝ }
+{
+    text_calls::find_piece(store, piece)
+}
+
+// Writes the list of the repeats.
+#[no_mangle]
+pub extern "C" fn mirror_list(
+    store: &[u8],
+    identifier: &[u8],
+    scratch: &mut [u8],
+    out: &mut [u8],
+) -> u64
+    ensures { λ r. ⌜ Promise (list (now (identifier .entry))) (now (store .entry)) (lending (now (scratch .entry)) (now (out .entry))) r (now (store .entry)) (lending (now (scratch .exit)) (now (out .exit))) ⌝ }
+{
+    text_calls::list_repeats(store, identifier, scratch, out)
 }

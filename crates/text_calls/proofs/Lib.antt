@@ -1,0 +1,3 @@
+-- what the questions over text promise, on plain values
+pub mod Decided
+pub mod Texts

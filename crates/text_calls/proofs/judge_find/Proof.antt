@@ -1,0 +1,32 @@
+-- `text_calls::judge_find` is the verdict on finding a piece. Assumes nothing.
+use mathlib.Core.Path.{refl, sym, _∙_}
+use borrow.Author.Needs.{needs}
+use borrow.Author.Tests.{not-true, not-false}
+use Rattle.outcome.specs.Verdict.{damaged}
+use Rattle.text_calls.proofs.Decided.{passed, failed}
+use Rattle.text_calls.proofs.Texts.{no-piece, no-text, can-find}
+use Rattle.text_calls.proofs.judge_find.Statement.{statement}
+use Rattle.text_calls.proofs.judge_find.Tie as tie
+
+returns : tie.Need-returns
+returns c = damaged (failed (c .before .is-good .result) (c .before .is-good .ensures) (not-true _ (c .if1 .taken))) refl
+
+returns-2 : tie.Need-returns-2
+returns-2 c =
+    let g = c .before .before .is-good in
+    no-piece _ (passed (g .result) (g .ensures) (not-false _ (c .before .if1 .left))) _ (c .if2 .taken)
+
+returns-3 : tie.Need-returns-3
+returns-3 c =
+    let g = c .before .before .before .before .is-good in
+    no-text _ (passed (g .result) (g .ensures) (not-false _ (c .before .before .before .if1 .left))) _ (c .before .before .if2 .left)
+    (sym (c .before .all-letters .ensures) ∙ not-true _ (c .if3 .taken))
+
+returns-4 : tie.Need-returns-4
+returns-4 c =
+    let g = c .before .before .before .before .is-good in
+    can-find _ (passed (g .result) (g .ensures) (not-false _ (c .before .before .before .if1 .left))) _ (c .before .before .if2 .left)
+    (sym (c .before .all-letters .ensures) ∙ not-false _ (c .if3 .left))
+
+pub judge-find-spec : {M : Type 1} → statement M
+judge-find-spec = tie.close (tie.spec (λ c κs. search needs) returns returns-2 (λ c κs. search needs) returns-3 returns-4)
