@@ -82,7 +82,7 @@ module _ (f : Fasta) (n m : ℕ) (w out : Word) (says : f ≡ accepted n w) (man
 
 -- the answer's number is the one that the table of document 01 gives the call
 pub number-is-fault : (f : Fasta) (room : ℕ) → numberOf (readingOf f room) ≡ fastaFault f room
-unfolding numberOf readingOf numberIf fastaFault
+unfolding readingOf numberIf fastaFault
 number-is-fault (refused k) room = refl
 number-is-fault (accepted n w) room = by-room (ltb room (length w))
   where

@@ -4,3 +4,4 @@ pub mod LaterLines
 pub mod Counting
 pub mod Writing
 pub mod Answering
+pub mod Accepted

@@ -6,16 +6,14 @@ use native.Mathlib.Omega.{arith}
 use native.Mathlib.Nat.{add-zero}
 use native.Mathlib.Numerals.{add-one}
 use mathlib.Core.Path.{_≡_, sym, ap, _∙_}
-use mathlib.Core.Bool.{Bool, true, false, _&&_, cond}
+use mathlib.Core.Bool.{Bool, true, false, cond}
 use mathlib.Core.List.{[], _++_, append-nil}
-use lib.Dec.{leb}
 use lib.ListN.{length, take, length-append}
 use lib.Seq.{take-length}
-use borrow.Author.Tests.{leb-true, not-true, not-false}
+use borrow.Author.Tests.{not-true, not-false}
 use Rattle.palindromes.specs.Word.{Word}
 use Rattle.palindromes.specs.Place.{stands}
-use Rattle.palindromes.specs.Bed.{allIdentifierBytes, isIdentifier, bedLine, listing}
-use Rattle.palindromes.proofs.Tests.{both-true}
+use Rattle.palindromes.specs.Bed.{bedLine, listing}
 use Rattle.palindromes.proofs.Listing.{listing-empty, prefix-listing}
 use Rattle.store.specs.Layout.{sizeIn, lettersIn}
 use Rattle.store.specs.Good.{ruleOf, Good}
@@ -25,13 +23,6 @@ use Rattle.questions.specs.Marks.{endingIn, ReadOn}
 -- the list of the first k letters
 abbrev pub listed : Word → Word → ℕ → Word
 listed b name k = listing (ruleOf b) name (take k (lettersIn b))
-
--- an identifier has at most 32 bytes
-pub identifier-length : (w : Word) → isIdentifier w ≡ true → length w ≤ 32
-unfolding isIdentifier
-identifier-length w h =
-    let f = both-true (leb 1 (length w) && leb (length w) 32) (allIdentifierBytes w) h .0 in
-    leb-true (length w) 32 (both-true (leb 1 (length w)) (leb (length w) 32) f .1)
 
 module _ {b : Word} (g : Good b) (name : Word) where
   -- before the first letter it is empty

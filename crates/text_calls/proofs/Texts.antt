@@ -1,25 +1,20 @@
 -- What the questions over text promise, on plain values. Rests on `Refusals` and `Promises` of the outcomes.
-use Prim.Native.Nat.{ℕ, zero, suc, _+_, _*_, _≤_, _<_}
+use Prim.Native.Nat.{ℕ, zero, suc, _*_, _≤_, _<_}
 use mathlib.Core.Path.{_≡_, refl, sym, ap, ap₂, _∙_}
 use mathlib.Core.Bool.{Bool, true, false, cond}
-use mathlib.Core.List.{List, [], _∷_}
+use mathlib.Core.List.{[], _∷_}
 use native.Mathlib.Omega.{arith}
 use lib.Dec.{leb}
-use lib.ListN.{length, replicate, length-append}
+use lib.ListN.{length, replicate}
 use lib.Seq.{sets}
 use borrow.Author.Tests.{leb-true, leb-false}
 use Rattle.palindromes.specs.Word.{Word, allLetters, member}
-use Rattle.palindromes.specs.Place.{Stands, firstPlace}
-use Rattle.palindromes.specs.Record.{palindromes, count}
+use Rattle.palindromes.specs.Record.{palindromes}
 use Rattle.palindromes.specs.Node.{Node, imaginary, spelt, spellingOf}
-use Rattle.palindromes.specs.Bed.{isIdentifier, bedLine, bedLines, listing}
+use Rattle.palindromes.specs.Bed.{isIdentifier, listing}
 use Rattle.palindromes.specs.Refusal.{spell, find, list, refusal}
 use Rattle.palindromes.proofs.Words.{no-letters}
-use Rattle.palindromes.proofs.Lists.{member-first, member-later}
-use Rattle.palindromes.proofs.Places.{first-end-fits}
-use Rattle.palindromes.proofs.Palindromes.{palindromes-true, count-length}
-use Rattle.bed.proofs.Decimal.{at-most-five}
-use Rattle.bed.proofs.Line.{line-size}
+use Rattle.bed.proofs.Listing.{listing-most}
 use Rattle.eertree.proofs.Rows.{reachOf, row-reach-most}
 use Rattle.store.specs.Layout.{sizeIn, usedIn, lettersIn}
 use Rattle.store.specs.Good.{ruleOf, nodeIn, Good}
@@ -27,7 +22,6 @@ use Rattle.updates.specs.Rows.{rowOf}
 use Rattle.updates.proofs.Rows.{letters-length, row-of-small, covers}
 use Rattle.questions.specs.declared.find.Found.the-variants.{At, Absent}
 use Rattle.questions.specs.Find.{foundOf}
-use Rattle.questions.proofs.Lines.{identifier-length}
 use Rattle.outcome.specs.Reply.{packed, accepted}
 use Rattle.outcome.specs.Outcome.{viewIn, acceptedOutcome, changed, written}
 use Rattle.outcome.specs.Promise.{nothing, Promise}
@@ -186,26 +180,9 @@ listable name b scratch out n v z =
     room i m k true x = leb-true (length (listing (ruleOf b) name (lettersIn b))) (length out) x
     room i m k false x = absurd (omega (arith, list-out b (lending scratch out) name i m (leb-false (length (listing (ruleOf b) name (lettersIn b))) (length out) x)))
 
--- a line has at most 45 bytes
-lines-most : (name s : Word) → length name ≤ 32 → length s < 65536 → (ps : List Word) → ((p : Word) → member p ps ≡ true → Stands p s) → length (bedLines name s ps) ≤ 45 * length ps
-unfolding bedLines
-lines-most name s h l [] m = omega arith
-lines-most name s h l (p ∷ ps) m =
-    let f = first-end-fits p s (m p (member-first p ps)) in
-    simp length-append
-    (omega (
-      arith,
-      line-size name (firstPlace p s) (firstPlace p s + length p),
-      at-most-five (firstPlace p s) (omega (arith, f)),
-      at-most-five (firstPlace p s + length p) (omega (arith, f)),
-      lines-most name s h l ps (λ q n. m q (member-later q p ps n)),
-    ))
-
 pub listing-packs : (name b scratch out : Word) {n : ℕ} → Listable name b scratch out → n ≡ length (listing (ruleOf b) name (lettersIn b)) → (0 < 65536) × (n < 65536) × (0 < 65536)
-unfolding listing count
 listing-packs name b scratch out a e =
-    let m = lines-most name (lettersIn b) (identifier-length name (a .named)) (omega (arith, few (a .good))) (palindromes (ruleOf b) (lettersIn b)) (λ p k. palindromes-true (ruleOf b) p (lettersIn b) k .1) in
-    (omega arith, omega (arith, m, e, count-length (ruleOf b) (lettersIn b), few (a .good)), omega arith)
+    (omega arith, omega (arith, listing-most (ruleOf b) name (lettersIn b) (a .named) (omega (arith, few (a .good))), e, few (a .good)), omega arith)
 
 pub listed-out : (name b scratch out : Word) {x n : ℕ} {scratch′ out′ : Word} → Listable name b scratch out → x ≡ packed (accepted false 0 n 0)
     → n ≡ length (listing (ruleOf b) name (lettersIn b)) → scratch′ ≡ sets scratch 0 (replicate (4 * length (lettersIn b)) 0) → out′ ≡ sets out 0 (listing (ruleOf b) name (lettersIn b))

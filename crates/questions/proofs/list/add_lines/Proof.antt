@@ -7,7 +7,8 @@ use lib.ListN.{length, length-append}
 use Rattle.palindromes.specs.Bed.{bedLine}
 use Rattle.walk.proofs.Stores.{header-fits}
 use Rattle.questions.specs.Marks.{ReadTo}
-use Rattle.questions.proofs.Lines.{listed, identifier-length, listed-none, listed-all, listed-new, listed-old}
+use Rattle.bed.proofs.Listing.{identifier-length}
+use Rattle.questions.proofs.Lines.{listed, listed-none, listed-all, listed-new, listed-old}
 use Rattle.questions.proofs.list.add_lines.Statement.{statement}
 use Rattle.questions.proofs.list.add_lines.Tie as tie
 

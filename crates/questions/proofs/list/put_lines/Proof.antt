@@ -11,7 +11,8 @@ use Rattle.store.specs.Layout.{sizeIn}
 use Rattle.walk.proofs.Stores.{header-fits}
 use Rattle.questions.specs.Marks.{ReadTo}
 use Rattle.questions.proofs.Stores.{written-on}
-use Rattle.questions.proofs.Lines.{listed, identifier-length, listed-none, listed-all, listed-new, listed-old, listed-most}
+use Rattle.bed.proofs.Listing.{identifier-length}
+use Rattle.questions.proofs.Lines.{listed, listed-none, listed-all, listed-new, listed-old, listed-most}
 use Rattle.questions.proofs.list.put_lines.Statement.{statement}
 use Rattle.questions.proofs.list.put_lines.Tie as tie
 

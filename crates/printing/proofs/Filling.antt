@@ -1,0 +1,64 @@
+-- A record that is filled from a text: each addition leaves one letter more, and at the end it lists what the letters list.
+-- Rests on the laws of opening and addition (`updates`). Assumes nothing.
+use Prim.Native.Nat.{ℕ, _+_, _*_, _≤_, _<_}
+use native.Mathlib.Omega.{arith}
+use native.Mathlib.Numerals.{add-one}
+use mathlib.Core.Path.{_≡_, refl, sym, ap, _∙_}
+use mathlib.Core.Bool.{true}
+use mathlib.Core.List.{[]}
+use lib.ListN.{length, take, getD}
+use lib.Seq.{take-suc, take-length, length-take-le}
+use Rattle.palindromes.specs.Word.{Word, isLetter, allLetters}
+use Rattle.palindromes.specs.End.{atRight, added}
+use Rattle.palindromes.specs.Palindrome.{plain}
+use Rattle.palindromes.specs.Bed.{isIdentifier, listing}
+use Rattle.palindromes.specs.Refusal.{storeSize}
+use Rattle.store.specs.Layout.{capacityIn, sizeIn, lettersIn}
+use Rattle.bed.proofs.Listing.{listing-most}
+use Rattle.updates.specs.Opening.{opened}
+use Rattle.updates.specs.Addition.{afterAddition}
+use Rattle.updates.proofs.Opening.{opened-capacity, opened-letters, opened-good}
+use Rattle.updates.proofs.Rows.{letters-length}
+use Rattle.updates.proofs.Added.{addition}
+use Rattle.walk.proofs.Towards.{letter-of}
+use Rattle.printing.specs.Filled.{Filled}
+
+-- a record that was just opened holds no letter
+pub filled-none : (b : Word) → length b ≡ 49408 → Filled (opened 1024 b) []
+unfolding storeSize
+filled-none b l =
+    record {
+      good = opened-good 1024 b (omega arith) (omega arith) (omega arith);
+      room = opened-capacity 1024 b (omega arith) (omega arith);
+      letters = opened-letters 1024 b (omega arith) (omega arith);
+    }
+
+module _ (b w : Word) (i : ℕ) (f : Filled b (take i w)) (h : i < length w) (all : allLetters w ≡ true) (few : length w ≤ 1024) where
+  -- the next letter is one, and has room
+  pub next-letter : isLetter (getD w i 0) ≡ true
+  next-letter = letter-of w i h all
+
+  pub next-room : sizeIn b < capacityIn b
+  next-room = omega (arith, letters-length (f .good .sized), ap length (f .letters), length-take-le i w (omega arith), f .room)
+
+  -- the letter joins those that stand
+  pub filled-more : Filled (afterAddition atRight (getD w i 0) b) (take (i + 1) w)
+  unfolding added
+  filled-more =
+      let a = addition atRight (f .good) next-letter next-room in
+      record { good = a .good; room = a .capacity ∙ f .room; letters = a .letters ∙ rw (f .letters, add-one i, take-suc w i 0 h) }
+
+-- past the last letter all are there
+pub filled-all : (b w : Word) (i : ℕ) → Filled b (take i w) → i ≡ length w → Filled b w
+filled-all b w i f e = record { good = f .good; room = f .room; letters = f .letters ∙ rw (e, take-length w) }
+
+-- what the filled record lists is what the letters list, and has room in the buffers
+module _ {b w : Word} (f : Filled b w) (few : length w ≤ 1024) where
+  pub filled-marks : 4 * sizeIn b ≤ 4096
+  filled-marks = omega (arith, letters-length (f .good .sized), ap length (f .letters), few)
+
+  pub filled-listing : (name : Word) → listing plain name (lettersIn b) ≡ listing plain name w
+  filled-listing name = ap (listing plain name) (f .letters)
+
+  pub filled-lines : (name : Word) {m : ℕ} → isIdentifier name ≡ true → 46080 ≤ m → length (listing plain name (lettersIn b)) ≤ m
+  filled-lines name h l = omega (arith, ap length (filled-listing name), listing-most plain name w h (omega arith), few)

@@ -1,0 +1,27 @@
+-- DEFINITIONS. The bytes that the program mirrorlist prints for a text. Nothing here is proved.
+use Prim.Native.Nat.{ℕ}
+use mathlib.Core.Bool.{cond}
+use mathlib.Core.List.{[], _∷_, _++_}
+use lib.Dec.{ltb}
+use lib.ListN.{length, take, drop}
+use Rattle.palindromes.specs.Word.{Word}
+use Rattle.palindromes.specs.Palindrome.{plain}
+use Rattle.palindromes.specs.Bed.{decimal, listing}
+use Rattle.palindromes.specs.Fasta.{Fasta, refused, accepted, readFasta}
+
+-- 01 "it prints only `# refused ` and the number, then LF"
+unfoldable pub refusedLine : ℕ → Word
+refusedLine n = (35 ∷ 32 ∷ 114 ∷ 101 ∷ 102 ∷ 117 ∷ 115 ∷ 101 ∷ 100 ∷ 32 ∷ []) ++ decimal n ++ (10 ∷ [])
+
+-- the identifier of a text, n bytes after the `>`
+abbrev pub identifierOf : ℕ → Word → Word
+identifierOf n text = take n (drop 1 text)
+
+-- 01 "adds every letter at the right and prints the list"; 01 "Zero letters print nothing" follows, for no letters have no repeats
+unfoldable pub printedFor : Fasta → Word → Word
+printedFor (refused n) text = refusedLine n
+printedFor (accepted n w) text = listing plain (identifierOf n text) w
+
+-- 01 "program, before reading on": 12 for more than 65,536 bytes
+unfoldable pub printed : Word → Word
+printed text = cond (ltb 65536 (length text)) (refusedLine 12) (printedFor (readFasta text) text)
