@@ -15,8 +15,9 @@ use Rattle.palindromes.specs.Bed.{decimal, listing}
 use Rattle.palindromes.specs.Fasta.{Fasta, refused, accepted, readFasta}
 use Rattle.fasta.specs.Reader.{readingOf, writtenTo}
 use Rattle.fasta.specs.declared.Reading.the-variants.{Accepted, Refused}
-use Rattle.fasta.proofs.Accepted.{Accepts, accepts}
+use Rattle.fasta.proofs.Accepted.{Accepts, accepts, refusal-small}
 use Rattle.bed.proofs.Decimal.{at-most-five}
+use Rattle.bed.proofs.Listing.{listing-most}
 use Rattle.bed.proofs.Stores.{sets-append}
 use Rattle.printing.specs.Printed.{refusedLine, identifierOf, printedFor, printed}
 use Rattle.printing.specs.Filled.{Read}
@@ -115,3 +116,24 @@ module _ {text : Word} {n m : ℕ} (a : Says text n m) (l buffer : Word) (size :
   pub list-printed : listing plain (identifierOf n text) (take m buffer) ≡ printedFor (readFasta text) text
   unfolding printedFor
   list-printed = rw (letters-read, a .says)
+
+-- ---- how many bytes are printed
+
+refused-line-most : (k : ℕ) → k < 65536 → length (refusedLine k) ≤ 16
+unfolding refusedLine
+refused-line-most k h = omega (arith, length-append (words ++ decimal k) (10 ∷ []), length-append words (decimal k), at-most-five k h)
+
+-- at most 45 bytes for each of 1,024 letters
+pub printed-most : (text : Word) → length (printed text) ≤ 46080
+unfolding printed printedFor
+printed-most text = by-length (ltb 65536 (length text))
+  where
+    by-text : (f : Fasta) → readFasta text ≡ f → length (printedFor f text) ≤ 46080
+    by-text (refused k) s = omega (arith, refused-line-most k (omega (arith, refusal-small text k s)))
+    by-text (accepted n w) s =
+        let a = accepts text n w s in
+        omega (arith, listing-most plain (identifierOf n text) w (a .identifier) (omega (arith, a .letters .1)), a .letters .1)
+
+    by-length : (x : Bool) → length (cond x (refusedLine 12) (printedFor (readFasta text) text)) ≤ 46080
+    by-length true = omega (arith, refused-line-most 12 (omega arith))
+    by-length false = by-text (readFasta text) refl
