@@ -13,7 +13,8 @@ use Rattle.palindromes.specs.Word.{Word, isLetter, allLetters, isEmpty}
 use Rattle.palindromes.specs.End.{End}
 use Rattle.palindromes.specs.Node.{spellingOf}
 use Rattle.palindromes.specs.Bed.{isIdentifier, listing}
-use Rattle.palindromes.specs.Refusal.{Call, opening, add, remove, askLength, askCount, askLongest, askLongestAt, askLetter, askRow, spell, find, list, fasta, View, fault, firstFault, isFree, spellingLength, storeSize, faults, refusal}
+use Rattle.palindromes.specs.Fasta.{readFasta}
+use Rattle.palindromes.specs.Refusal.{Call, opening, add, remove, askLength, askCount, askLongest, askLongestAt, askLetter, askRow, spell, find, list, fasta, View, fault, firstFault, isFree, spellingLength, storeSize, fastaFault, faults, refusal}
 use Rattle.palindromes.proofs.Tests.{non-empty-is}
 use Rattle.store.specs.Layout.{capacityIn, usedIn, lettersIn}
 use Rattle.store.specs.Good.{ruleOf, nodeIn, Good}
@@ -48,6 +49,11 @@ unfolding firstFault
 first-not m h [] a e = h (sym e)
 first-not m h (zero ∷ ns) a e = first-not m h ns (a .1) e
 first-not m h (suc n ∷ ns) a e = a .0 e
+
+only-fault : (n : ℕ) → firstFault (n ∷ []) ≡ n
+unfolding firstFault
+only-fault zero = refl
+only-fault (suc n) = refl
 
 -- a row of the table with another number than 3
 other-number : (n : ℕ) (t : Bool) → (n ≡ 3 → ⊥) → fault n t ≡ 3 → ⊥
@@ -193,6 +199,11 @@ module _ (b : Word) (l : Lent) where
   pub opening-accepted : (k : ℕ) → (leb 1 k && leb k 1024) ≡ true → storeSize k ≤ length b → refusal (ruleOf b) (viewIn b l) (opening k) ≡ 0
   unfolding refusal faults viewIn firstFault fault
   opening-accepted k h m = rw (h, le-ltb (length b) (storeSize k) m)
+
+  -- a FASTA text has one row of the table, whatever the store
+  pub fasta-number : (text : Word) → refusal (ruleOf b) (viewIn b l) (fasta text) ≡ fastaFault (readFasta text) (length (l .out))
+  unfolding refusal faults viewIn
+  fasta-number text = only-fault (fastaFault (readFasta text) (length (l .out)))
 
 -- ---- what the outcome then is
 

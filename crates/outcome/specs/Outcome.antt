@@ -12,6 +12,7 @@ use Rattle.palindromes.specs.Record.{palindromes, count, longestLength, longest
 use Rattle.palindromes.specs.End.{letterAt}
 use Rattle.palindromes.specs.Node.{spelt, lengthOf, linkOf, innerOf, spellingOf}
 use Rattle.palindromes.specs.Bed.{listing}
+use Rattle.palindromes.specs.Fasta.{Fasta, refused, accepted as read, readFasta}
 use Rattle.palindromes.specs.Refusal.{Call, opening, add, remove, askLength, askCount, askLongest, askLongestAt, askLetter, askRow, spell, find, list, fasta, View, refusal}
 use Rattle.store.specs.Layout.{capacityIn, usedIn, lettersIn}
 use Rattle.store.specs.Good.{ruleOf, nodeIn, Good}
@@ -57,6 +58,16 @@ changed r b l = record { reply = r; store = b; lent = l }
 unfoldable pub written : Word → Word → Word
 written w out = sets out 0 w
 
+-- 01 "FASTA": a text that is read answers the length of its identifier and the number of its letters; one with a fault, the number of its first fault
+unfoldable pub fastaReply : Fasta → Reply
+fastaReply (refused n) = refusedWith n
+fastaReply (read n w) = accepted false 0 n (length w)
+
+-- the letters of a text that is read, at the front of the buffer; after a fault the buffer as it was
+unfoldable pub fastaLetters : Fasta → Word → Word
+fastaLetters (refused n) out = out
+fastaLetters (read n w) out = written w out
+
 -- an accepted call. 01 "Questions and changes"; a question changes no byte of the store
 unfoldable pub acceptedOutcome : Call → Word → Lent → Outcome
 acceptedOutcome (opening k) b l = changed (accepted false 0 0 0) (opened k b) l
@@ -95,7 +106,8 @@ acceptedOutcome (list name) b l =
       store = b;
       lent = record { scratch = written (replicate (4 * length (lettersIn b)) 0) (l .scratch); out = written (listing (ruleOf b) name (lettersIn b)) (l .out) };
     }
-acceptedOutcome (fasta text) b l = changed (accepted false 0 0 0) b l
+acceptedOutcome (fasta text) b l =
+    record { reply = fastaReply (readFasta text); store = b; lent = record { scratch = l .scratch; out = fastaLetters (readFasta text) (l .out) } }
 
 unfoldable pub unlessRefused : ℕ → Call → Word → Lent → Outcome
 unlessRefused zero call b l = acceptedOutcome call b l
@@ -104,6 +116,10 @@ unlessRefused (suc n) call b l = refusedOutcome (suc n) b l
 -- the outcome of a call on a good store, and of an opening on any: carried out if no row of the table of numbers applies, and else refused
 unfoldable pub outcome : Call → Word → Lent → Outcome
 outcome call b l = unlessRefused (refusal (ruleOf b) (viewIn b l) call) call b l
+
+-- 01 "FASTA": the call that reads a text is lent no store and no scratch, only the buffer for the letters
+unfoldable pub fastaOutcome : (text out : Word) → Outcome
+fastaOutcome text out = outcome (fasta text) [] (record { scratch = []; out = out })
 
 -- what a call on a store must come to: 3 first, for a store that is not good; else its outcome
 pub record Answers (call : Call) (b : Word) (l : Lent) (o : Outcome) : Type 0 where

@@ -33,23 +33,23 @@ use Rattle.sittings.proofs.Step.{add-state, add-claim, add-keeps, remov
 
 -- ---- replies and stores, whatever the refusal number n
 
--- the reply's number is the refusal's
-number-of : (n : ℕ) (call : Call) (b : Word) (l : Lent) → unlessRefused n call b l .reply .number ≡ n
+-- the reply's number is the refusal's, of a call that takes a store
+number-of : (n : ℕ) (call : Call) (b : Word) (l : Lent) → Stored call → unlessRefused n call b l .reply .number ≡ n
 unfolding unlessRefused refusedOutcome refusedWith acceptedOutcome changed accepted
-number-of (suc n) call b l = refl
-number-of zero (opening k) b l = refl
-number-of zero (add e c) b l = refl
-number-of zero (remove e) b l = refl
-number-of zero askLength b l = refl
-number-of zero askCount b l = refl
-number-of zero askLongest b l = refl
-number-of zero (askLongestAt e) b l = refl
-number-of zero (askLetter i) b l = refl
-number-of zero (askRow r) b l = refl
-number-of zero (spell r) b l = refl
-number-of zero (find p) b l = refl
-number-of zero (list name) b l = refl
-number-of zero (fasta text) b l = refl
+number-of (suc n) call b l h = refl
+number-of zero (opening k) b l h = refl
+number-of zero (add e c) b l h = refl
+number-of zero (remove e) b l h = refl
+number-of zero askLength b l h = refl
+number-of zero askCount b l h = refl
+number-of zero askLongest b l h = refl
+number-of zero (askLongestAt e) b l h = refl
+number-of zero (askLetter i) b l h = refl
+number-of zero (askRow r) b l h = refl
+number-of zero (spell r) b l h = refl
+number-of zero (find p) b l h = refl
+number-of zero (list name) b l h = refl
+number-of zero (fasta text) b l h = absurd h
 
 -- a call that changes nothing, whether it is carried out or refused
 abbrev Question : Call → Type 0
@@ -87,7 +87,7 @@ store-of zero (fasta text) b l q = absurd q
 -- a refused opening leaves the store
 opening-store : (n k : ℕ) (b : Word) (l : Lent) → (unlessRefused n (opening k) b l .reply .number ≡ 0 → ⊥) → unlessRefused n (opening k) b l .store ≡ b
 unfolding unlessRefused refusedOutcome
-opening-store zero k b l h = absurd (h (number-of zero (opening k) b l))
+opening-store zero k b l h = absurd (h (number-of zero (opening k) b l tt))
 opening-store (suc n) k b l h = refl
 
 -- ---- one more call
@@ -137,7 +137,7 @@ module _ (k : ℕ) (s : Word) (row : Word → ℕ) (b : Word) (st : State k s ro
   unfolding outcome
   no-three call l o p z =
       let h = came-to call l o p in
-      never-three b l call (h .1) (sym (number-of (refusal (ruleOf b) (viewIn b l) call) call b l) ∙ ap (λ (x : Outcome). x .reply .number) (sym (h .0)) ∙ z)
+      never-three b l call (h .1) (sym (number-of (refusal (ruleOf b) (viewIn b l) call) call b l (h .1)) ∙ ap (λ (x : Outcome). x .reply .number) (sym (h .0)) ∙ z)
 
   keeps : (call : Call) (l : Lent) (o : Outcome) → Promised call b l o → (w : Word) → Stands w s → rowStep s call (o .reply) row w ≡ row w
   unfolding Promised rowStep
@@ -223,7 +223,7 @@ pub every-list : (k : ℕ) (b₀ : Word) (l : Lent) (o : Outcome) → Bytes b₀
     → {xs : List Turn} {b : Word} → Run (o .store) xs b → Claims k xs b
 unfolding outcome acceptedOutcome changed unlessRefused
 every-list k b₀ l o h e z {xs} {b} run =
-    let n : refusal (ruleOf b₀) (viewIn b₀ l) (opening k) ≡ 0 = sym (number-of (refusal (ruleOf b₀) (viewIn b₀ l) (opening k)) (opening k) b₀ l) ∙ ap (λ (x : Outcome). x .reply .number) (sym e) ∙ z in
+    let n : refusal (ruleOf b₀) (viewIn b₀ l) (opening k) ≡ 0 = sym (number-of (refusal (ruleOf b₀) (viewIn b₀ l) (opening k)) (opening k) b₀ l tt) ∙ ap (λ (x : Outcome). x .reply .number) (sym e) ∙ z in
     let stored : o .store ≡ opened k b₀ = ap (λ (x : Outcome). x .store) e ∙ ap (λ (m : ℕ). unlessRefused m (opening k) b₀ l .store) n in
     claims k b₀ (opened-state k b₀ h (opening-room k b₀ l n)) (subst (λ (x : Word). Run x xs b) stored run)
 
