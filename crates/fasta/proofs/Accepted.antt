@@ -8,7 +8,7 @@ use native.Mathlib.Omega.{arith}
 use lib.Dec.{leb, eqb}
 use lib.ListN.{length, take, drop}
 use lib.Seq.{length-take-le}
-use borrow.Author.Tests.{leb-true, le-leb}
+use borrow.Author.Tests.{leb-true}
 use Rattle.palindromes.specs.Word.{Word, isLetter, allLetters}
 use Rattle.palindromes.specs.Bed.{isIdentifierByte, allIdentifierBytes, isIdentifier}
 use Rattle.palindromes.specs.Fasta.{Fasta, refused, accepted, identifierLength, startsWithLf, endsIdentifier, goodFirstLine, afterFirstLine, Kind, secondHeader, lineEnd, beforeLf, letter, other, kindOf, Body, fault, letters, withLetter, readByte, readLines, withIdentifier, readFasta}
@@ -88,20 +88,28 @@ lines-within (b ∷ t) start room w e =
 
 pub record Accepts (text : Word) (n : ℕ) (w : Word) : Type 0 where
   pub identifier : isIdentifier (take n (drop 1 text)) ≡ true
+  pub short : n ≤ 32
   pub fits : n + 1 ≤ length text
   pub letters : Within 1024 w
 
 no-refusal : (k n : ℕ) (w : Word) → refused k ≡ accepted n w → ⊥
 no-refusal k n w e = let z : _≡_ {A = ℕ} 0 1 = cc in omega arith
 
--- a good first line has an identifier
-good-identifier : (b : ℕ) (t : Word) → goodFirstLine (b ∷ t) ≡ true → isIdentifier (take (identifierLength t) t) ≡ true
-unfolding goodFirstLine isIdentifier
-good-identifier b t e =
-    let line = both-true (eqb b 62 && leb 1 (identifierLength t) && leb (identifierLength t) 32) (endsIdentifier (drop (identifierLength t) t)) e in
-    let high = both-true (eqb b 62 && leb 1 (identifierLength t)) (leb (identifierLength t) 32) (line .0) in
-    let low = both-true (eqb b 62) (leb 1 (identifierLength t)) (high .0) in
-    rw (length-take-le (identifierLength t) t (identifier-fits t), low .1, high .1, identifier-clean t)
+-- a good first line has an identifier of at most 32 bytes
+module _ (b : ℕ) (t : Word) (e : goodFirstLine (b ∷ t) ≡ true) where
+  tests : (leb 1 (identifierLength t) ≡ true) × (leb (identifierLength t) 32 ≡ true)
+  unfolding goodFirstLine
+  tests =
+      let line = both-true (eqb b 62 && leb 1 (identifierLength t) && leb (identifierLength t) 32) (endsIdentifier (drop (identifierLength t) t)) e in
+      let high = both-true (eqb b 62 && leb 1 (identifierLength t)) (leb (identifierLength t) 32) (line .0) in
+      (both-true (eqb b 62) (leb 1 (identifierLength t)) (high .0) .1, high .1)
+
+  good-identifier : isIdentifier (take (identifierLength t) t) ≡ true
+  unfolding isIdentifier
+  good-identifier = rw (length-take-le (identifierLength t) t (identifier-fits t), tests .0, tests .1, identifier-clean t)
+
+  good-length : identifierLength t ≤ 32
+  good-length = leb-true (identifierLength t) 32 (tests .1)
 
 -- an accepted text
 pub accepts : (text : Word) (n : ℕ) (w : Word) → readFasta text ≡ accepted n w → Accepts text n w
@@ -116,6 +124,7 @@ accepts (b ∷ t) n w e = by-line (goodFirstLine (b ∷ t)) refl e
         let v : u ≡ w = cc in
         record {
           identifier = rw (sym m) (good-identifier b t g);
+          short = omega (arith, good-length b t g, m);
           fits = omega (arith, identifier-fits t, m);
           letters = rw (sym v) (lines-within (afterFirstLine t) true 1024 u f);
         }

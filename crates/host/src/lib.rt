@@ -3,7 +3,7 @@
 ghost use Rattle.palindromes.specs.End.{atLeft, atRight};
 ghost use mathlib.Core.List.{[]};
 ghost use Rattle.palindromes.specs.Refusal.{add, remove, askLength, askCount, askLongest, askLongestAt, askLetter, askRow, spell, find, list};
-ghost use Rattle.outcome.specs.Promise.{nothing, Promise, OpeningPromise};
+ghost use Rattle.outcome.specs.Promise.{nothing, Promise, OpeningPromise, FastaPromise};
 ghost use Rattle.text_calls.specs.Lending.{lending};
 use store::letters::Side;
 
@@ -130,4 +130,12 @@ pub extern "C" fn mirror_list(
     ensures { λ r. ⌜ Promise (list (now (identifier .entry))) (now (store .entry)) (lending (now (scratch .entry)) (now (out .entry))) r (now (store .entry)) (lending (now (scratch .exit)) (now (out .exit))) ⌝ }
 {
     text_calls::list_repeats(store, identifier, scratch, out)
+}
+
+// Reads a FASTA text: the identifier's length and the number of letters, which go to the buffer.
+#[no_mangle]
+pub extern "C" fn mirror_fasta(text: &[u8], out: &mut [u8]) -> u64
+    ensures { λ r. ⌜ FastaPromise (now (text .entry)) (now (out .entry)) r (now (out .exit)) ⌝ }
+{
+    fasta_call::read_text(text, out)
 }

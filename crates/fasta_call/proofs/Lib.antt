@@ -1,0 +1,2 @@
+-- the answer of a text
+pub mod Answering

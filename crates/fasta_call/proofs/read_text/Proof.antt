@@ -1,0 +1,19 @@
+-- `fasta_call::read_text` keeps its promise. Assumes nothing.
+use borrow.Author.Needs.{needs}
+use Rattle.fasta_call.proofs.Answering.{small, kept}
+use Rattle.fasta_call.proofs.read_text.Statement.{statement}
+use Rattle.fasta_call.proofs.read_text.Tie as tie
+
+answer-requires : tie.Need-answer-requires
+answer-requires c κs =
+    let s = c .before .before .before .before .before .before in
+    small (s .args .text .now) (s .args .out .now) (c .before .before .read .ensures .0)
+
+returns : tie.Need-returns
+returns c =
+    let s = c .before .before .before .before .before .before .before in
+    let e = c .before .before .before .read .ensures in
+    kept (s .args .text .now) (s .args .out .now) (e .0) (e .1) (c .answer .ensures)
+
+pub read-text-spec : {M : Type 1} → statement M
+read-text-spec = tie.close (tie.spec (λ c κs. search needs) answer-requires (λ c. search needs) returns)

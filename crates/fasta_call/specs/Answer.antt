@@ -1,0 +1,16 @@
+-- DEFINITIONS. The reply for each case of what the FASTA reader answers. Nothing here is proved.
+use Prim.Native.Nat.{ℕ, _<_}
+use mathlib.Core.Bool.{false}
+use Rattle.fasta.specs.declared.Reading.{Reading}
+use Rattle.fasta.specs.declared.Reading.the-variants.{Accepted, Refused}
+use Rattle.outcome.specs.Reply.{Reply, refusedWith, accepted}
+
+-- 01 "the reader answers the identifier's length and the number of letters"; a refusal answers its number
+abbrev pub readingReply : Reading → Reply
+readingReply (Accepted n m) = accepted false 0 n m
+readingReply (Refused number) = refusedWith number
+
+-- the numbers of an answer fit their bytes
+abbrev pub Small : Reading → Type 0
+Small (Accepted n m) = (n < 65536) × (m < 65536)
+Small (Refused number) = Unit {0}
