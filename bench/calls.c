@@ -1,0 +1,80 @@
+/* The table of calls, and the sittings that they are run on. */
+#include "calls.h"
+
+#include <string.h>
+
+#include "../include/mirror.h"
+#include "twin.h"
+#include "words.h"
+
+#define BOTH(name, args)                                                     \
+    static uint64_t library_##name(struct sitting *s) { return mirror_##name args; } \
+    static uint64_t plain_##name(struct sitting *s) { return twin_##name args; }
+
+static const uint8_t identifier[] = "chr1_sample";
+#define NAME identifier, sizeof identifier - 1
+
+BOTH(open, (s->store, s->length, s->capacity))
+BOTH(add_left, (s->store, s->length, s->letter))
+BOTH(add_right, (s->store, s->length, s->letter))
+BOTH(remove_left, (s->store, s->length))
+BOTH(remove_right, (s->store, s->length))
+BOTH(length, (s->store, s->length))
+BOTH(count, (s->store, s->length))
+BOTH(letter, (s->store, s->length, s->place))
+BOTH(longest, (s->store, s->length))
+BOTH(longest_left, (s->store, s->length))
+BOTH(longest_right, (s->store, s->length))
+BOTH(row, (s->store, s->length, s->row))
+BOTH(spell, (s->store, s->length, s->row, s->out, s->out_length))
+BOTH(find, (s->store, s->length, s->piece, s->piece_length))
+BOTH(list, (s->store, s->length, NAME, s->scratch, s->scratch_length, s->out, s->out_length))
+
+#define CALL(name, changes) {#name, changes, library_##name, plain_##name}
+
+const struct call calls[CALLS] = {
+    CALL(open, true),
+    CALL(add_left, true),
+    CALL(add_right, true),
+    CALL(remove_left, true),
+    CALL(remove_right, true),
+    CALL(length, false),
+    CALL(count, false),
+    CALL(letter, false),
+    CALL(longest, false),
+    CALL(longest_left, false),
+    CALL(longest_right, false),
+    CALL(row, false),
+    CALL(spell, false),
+    CALL(find, false),
+    CALL(list, false),
+};
+
+/* The row of the longest palindrome, by its length in the table. */
+static unsigned longest_row(const uint8_t *b)
+{
+    unsigned best = EMPTY;
+    for (unsigned r = 2; r < capacity_of(b) + 2; r++)
+        if (get(b, r, LENGTH) > get(b, best, LENGTH))
+            best = r;
+    return best;
+}
+
+void seat(struct sitting *s, int word, size_t n, size_t capacity)
+{
+    uint8_t letters[CAPACITY_MOST + 1];
+    make_word(word, letters, n + 1);
+    memset(s, 0, sizeof *s);
+    s->length = 48 * capacity + 256;
+    s->scratch_length = sizeof s->scratch;
+    s->out_length = sizeof s->out;
+    bare_open(s->store, capacity);
+    for (size_t i = 0; i < n; i++)
+        bare_add(s->store, RIGHT, letters[i]);
+    s->capacity = capacity;
+    s->letter = letters[n];
+    s->place = n / 2;
+    s->row = longest_row(s->store);
+    uint64_t spelt = twin_spell(s->store, s->length, s->row, s->piece, sizeof s->piece);
+    s->piece_length = spelt >> 32 & 0xffff;
+}

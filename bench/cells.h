@@ -1,0 +1,51 @@
+/* The store's layout as a C programmer would read it (docs/LAYOUT.md): cells of two bytes, twelve to a row of the
+ * table, then the letters. Loads and stores are 16 bits wide, on a machine that keeps the low byte first.
+ *
+ * The twin shares no line with the library. It exists to say what the same work costs in C. */
+#ifndef BENCH_CELLS_H
+#define BENCH_CELLS_H
+
+#include <stddef.h>
+#include <stdint.h>
+#include <string.h>
+
+enum { LENGTH = 0, LINK = 1, INNER = 2, OUTER = 3, EDGE = 4, ORDER = 8, RANK = 9 };
+enum { ROW_BYTES = 24, IMAGINARY = 0, EMPTY = 1, ROWS_MOST = 1026 };
+enum side { LEFT, RIGHT };
+
+/* Which bytes are letters, and where a letter's edge stands among the four of a row. */
+static const uint8_t letter_table[256] = {['A'] = 1, ['C'] = 1, ['G'] = 1, ['T'] = 1};
+static const uint8_t edge_place[256] = {['A'] = 0, ['C'] = 1, ['G'] = 2, ['T'] = 3};
+
+static inline unsigned get(const uint8_t *b, size_t row, size_t cell)
+{
+    uint16_t v;
+    memcpy(&v, b + ROW_BYTES * row + 2 * cell, sizeof v);
+    return v;
+}
+
+static inline void put(uint8_t *b, size_t row, size_t cell, unsigned v)
+{
+    uint16_t narrow = (uint16_t)v;
+    memcpy(b + ROW_BYTES * row + 2 * cell, &narrow, sizeof narrow);
+}
+
+static inline unsigned capacity_of(const uint8_t *b) { return get(b, 0, 8); }
+static inline unsigned size_of(const uint8_t *b) { return get(b, 0, 9); }
+static inline unsigned count_of(const uint8_t *b) { return get(b, 0, 10); }
+static inline unsigned end_row(const uint8_t *b, enum side side) { return get(b, 1, side == LEFT ? 8 : 9); }
+static inline void set_end_row(uint8_t *b, enum side side, unsigned r) { put(b, 1, side == LEFT ? 8 : 9, r); }
+
+static inline const uint8_t *letters_of(const uint8_t *b) { return b + ROW_BYTES * ((size_t)capacity_of(b) + 2); }
+
+static inline unsigned edge_of(const uint8_t *b, size_t row, uint8_t letter)
+{
+    return get(b, row, (size_t)EDGE + edge_place[letter]);
+}
+
+static inline void put_edge(uint8_t *b, size_t row, uint8_t letter, unsigned to)
+{
+    put(b, row, (size_t)EDGE + edge_place[letter], to);
+}
+
+#endif

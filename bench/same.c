@@ -1,0 +1,119 @@
+/* Whether the twin does the library's work: a benchmark of two programs that answer differently is worthless.
+ *
+ * Every call on every word, long random sittings from both ends, and damaged stores go through both, and every answer
+ * and every lent byte must agree. Prints how many calls were compared, and ends with 1 at the first difference. */
+#include <stdio.h>
+#include <stdlib.h>
+#include <string.h>
+
+#include "calls.h"
+#include "cells.h"
+#include "words.h"
+
+static struct sitting here, there;
+static unsigned long compared, refused;
+
+/* Runs a call of the library on `here` and of the twin on `there`, both equal before. */
+static uint64_t compare(const struct call *call, const char *where)
+{
+    uint64_t ours = call->library(&here), theirs = call->twin(&there);
+    compared++;
+    if (ours == theirs && memcmp(&here, &there, sizeof here) == 0)
+        return ours;
+    printf("bench/same: %s differs, %s: %016llx against %016llx\n", call->name, where, (unsigned long long)ours,
+           (unsigned long long)theirs);
+    exit(1);
+}
+
+static void compare_all(const struct sitting *s, const char *where)
+{
+    for (int i = 0; i < CALLS; i++) {
+        here = there = *s;
+        compare(&calls[i], where);
+    }
+}
+
+/* Spelling and listing into a buffer that just fits, and into one that is a byte short. */
+static void tight(const struct sitting *s)
+{
+    for (int i = 12; i < CALLS; i += 2) {
+        here = there = *s;
+        size_t fits = compare(&calls[i], "a large buffer") >> 32 & 0xffff;
+        for (size_t less = 0; less < 2 && less <= fits; less++) {
+            here = there = *s;
+            here.out_length = there.out_length = fits - less;
+            compare(&calls[i], "a tight buffer");
+        }
+    }
+}
+
+/* The inputs that the benchmark times, and the largest records. */
+static void on_words(void)
+{
+    static const size_t sizes[] = {0, 1, 2, 125, 250, 500, 1000};
+    static struct sitting s;
+    for (int word = 0; word < WORDS; word++) {
+        for (size_t i = 0; i < sizeof sizes / sizeof *sizes; i++) {
+            seat(&s, word, sizes[i], sizes[i] + 24);
+            compare_all(&s, word_names[word]);
+            tight(&s);
+        }
+        seat(&s, word, 1024, 1024);
+        compare_all(&s, word_names[word]);
+    }
+}
+
+/* Additions and removals at both ends, with a question now and then. */
+static void sittings(uint32_t seed, size_t capacity, int letters, int steps)
+{
+    seat(&here, 1, 0, capacity);
+    there = here;
+    for (int i = 0; i < steps; i++) {
+        uint32_t r = next_random(&seed) >> 8;
+        here.letter = there.letter = (uint64_t)"ACGT"[r % (unsigned)letters];
+        here.row = there.row = r / 7 % (capacity + 3);
+        here.place = there.place = r / 11 % (capacity + 1);
+        size_t what = r / 64 % 40;
+        bool rising = i / 300 % 3 != 2;
+        compare(&calls[what < CALLS && what > 4 ? what : (rising ? 1 : 3) + r / 4096 % 2], "a sitting");
+    }
+}
+
+/* Good stores with a few cells or letters changed: both must take or refuse them alike. */
+static void damage(uint32_t seed, int word, size_t n, size_t capacity, int tries)
+{
+    static struct sitting good;
+    seat(&good, word, n, capacity);
+    size_t rows = ROW_BYTES * (capacity + 2), used = rows + capacity;
+    for (int i = 0; i < tries; i++) {
+        here = good;
+        for (int k = (int)(next_random(&seed) >> 30); k >= 0; k--) {
+            size_t at = (next_random(&seed) >> 4) % used, from = (next_random(&seed) >> 4) % rows;
+            uint32_t kind = next_random(&seed) >> 30;
+            if (kind == 0 || at >= rows)
+                here.store[at] = (uint8_t)next_random(&seed);
+            else if (kind == 1)
+                put(here.store, at / 24, at % 24 / 2, get(here.store, from / 24, from % 24 / 2));
+            else
+                put(here.store, at / 24, at % 24 / 2, (next_random(&seed) >> 4) % (unsigned)(capacity + 3));
+        }
+        there = here;
+        if (compare(&calls[5], "a damaged store") == 3)
+            refused++;
+    }
+}
+
+int main(void)
+{
+    on_words();
+    sittings(7, 40, 2, 6000);
+    sittings(8, 300, 4, 6000);
+    sittings(9, 9, 3, 6000);
+    for (int word = 0; word < WORDS; word++) {
+        damage((uint32_t)word + 1, word, 9, 12, 8000);
+        damage((uint32_t)word + 9, word, 60, 64, 4000);
+    }
+    printf("bench/same: %lu calls gave equal answers and equal bytes, %lu damaged stores refused by both\n", compared,
+           refused);
+    return 0;
+}

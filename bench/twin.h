@@ -1,0 +1,46 @@
+/* The twin: the library's calls written again in C, over the same store, with the same test and the same work, so
+ * that the benchmark can say what the library costs beside plain C. bench/same.c checks that answers and bytes agree.
+ *
+ * twin_X is mirror_X of include/mirror.h. The bare_X rely on a good store and do no test. */
+#ifndef BENCH_TWIN_H
+#define BENCH_TWIN_H
+
+#include <stdbool.h>
+#include <stddef.h>
+#include <stdint.h>
+
+#include "cells.h"
+
+bool twin_is_good(const uint8_t *store, size_t length);
+
+uint64_t twin_open(uint8_t *store, size_t length, uint64_t capacity);
+uint64_t twin_add_left(uint8_t *store, size_t length, uint64_t letter);
+uint64_t twin_add_right(uint8_t *store, size_t length, uint64_t letter);
+uint64_t twin_remove_left(uint8_t *store, size_t length);
+uint64_t twin_remove_right(uint8_t *store, size_t length);
+uint64_t twin_length(const uint8_t *store, size_t length);
+uint64_t twin_count(const uint8_t *store, size_t length);
+uint64_t twin_longest(const uint8_t *store, size_t length);
+uint64_t twin_longest_left(const uint8_t *store, size_t length);
+uint64_t twin_longest_right(const uint8_t *store, size_t length);
+uint64_t twin_letter(const uint8_t *store, size_t length, uint64_t place);
+uint64_t twin_row(const uint8_t *store, size_t length, uint64_t row);
+uint64_t twin_spell(const uint8_t *store, size_t length, uint64_t row, uint8_t *out, size_t out_length);
+uint64_t twin_find(const uint8_t *store, size_t length, const uint8_t *piece, size_t piece_length);
+uint64_t twin_list(const uint8_t *store, size_t length, const uint8_t *identifier, size_t identifier_length,
+                   uint8_t *scratch, size_t scratch_length, uint8_t *out, size_t out_length);
+
+void bare_open(uint8_t *store, size_t capacity);
+uint64_t bare_add(uint8_t *store, enum side side, uint8_t letter);
+uint64_t bare_remove(uint8_t *store, enum side side);
+size_t bare_list(const uint8_t *store, const uint8_t *name, size_t name_length, uint8_t *scratch, uint8_t *out);
+
+/* Opens a record of the largest capacity and adds each letter at the right, with no test of the store. */
+uint64_t twin_fill(uint8_t *store, size_t length, const uint8_t *letters, size_t n);
+
+static inline uint64_t answer(bool flag, unsigned row, unsigned first, unsigned second)
+{
+    return (uint64_t)flag << 8 | (uint64_t)row << 16 | (uint64_t)first << 32 | (uint64_t)second << 48;
+}
+
+#endif

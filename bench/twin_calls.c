@@ -1,0 +1,37 @@
+/* The twin's calls that change a record: the test of the store and of the arguments, then the change. */
+#include "twin.h"
+
+uint64_t twin_open(uint8_t *store, size_t length, uint64_t capacity)
+{
+    if (capacity < 1 || capacity > 1024)
+        return 1;
+    if (length < 48 * capacity + 256)
+        return 2;
+    bare_open(store, capacity);
+    return 0;
+}
+
+static uint64_t add(uint8_t *store, size_t length, enum side side, uint64_t letter)
+{
+    if (!twin_is_good(store, length))
+        return 3;
+    if (letter > 255 || !letter_table[letter])
+        return 4;
+    if (size_of(store) >= capacity_of(store))
+        return 5;
+    return bare_add(store, side, (uint8_t)letter);
+}
+
+static uint64_t take(uint8_t *store, size_t length, enum side side)
+{
+    if (!twin_is_good(store, length))
+        return 3;
+    if (size_of(store) == 0)
+        return 6;
+    return bare_remove(store, side);
+}
+
+uint64_t twin_add_left(uint8_t *store, size_t length, uint64_t letter) { return add(store, length, LEFT, letter); }
+uint64_t twin_add_right(uint8_t *store, size_t length, uint64_t letter) { return add(store, length, RIGHT, letter); }
+uint64_t twin_remove_left(uint8_t *store, size_t length) { return take(store, length, LEFT); }
+uint64_t twin_remove_right(uint8_t *store, size_t length) { return take(store, length, RIGHT); }

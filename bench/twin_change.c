@@ -1,0 +1,94 @@
+/* The twin's changes: opening, an addition and a removal, byte for byte what the library leaves. */
+#include "links.h"
+#include "twin.h"
+
+void bare_open(uint8_t *b, size_t capacity)
+{
+    memset(b, 0, ROW_BYTES * (capacity + 2) + capacity);
+    put(b, 0, 8, (unsigned)capacity);
+    put(b, EMPTY, LENGTH, 1);
+    set_end_row(b, LEFT, EMPTY);
+    set_end_row(b, RIGHT, EMPTY);
+    for (size_t i = 0; i < capacity; i++) {
+        put(b, i + 2, ORDER, (unsigned)i + 2);
+        put(b, i + 2, RANK, (unsigned)i);
+    }
+}
+
+/* The palindrome that d makes around row u stood nowhere: writes its row, the first free one. */
+static unsigned hang(uint8_t *b, struct view v, unsigned u, uint8_t d)
+{
+    unsigned count = count_of(b), row = get(b, count + 2, ORDER);
+    unsigned link = u == IMAGINARY ? (unsigned)EMPTY : step(b, v, size_of(b), get(b, u, LINK), d);
+    put(b, row, LENGTH, get(b, u, LENGTH) + 2);
+    put(b, row, LINK, link);
+    put(b, row, INNER, u);
+    put(b, row, OUTER, d);
+    put_edge(b, u, d, row);
+    put(b, 0, 10, count + 1);
+    return row;
+}
+
+uint64_t bare_add(uint8_t *b, enum side side, uint8_t d)
+{
+    unsigned n = size_of(b);
+    struct view v = view_of(b, side);
+    unsigned u = walk(b, v, n, end_row(b, side), d), row = edge_of(b, u, d);
+    bool is_new = row == 0;
+    if (is_new)
+        row = hang(b, v, u, d);
+    uint8_t *w = b + (letters_of(b) - b);
+    if (side == LEFT)
+        memmove(w + 1, w, n);
+    w[side == LEFT ? 0 : n] = d;
+    put(b, 0, 9, n + 1);
+    set_end_row(b, side, row);
+    if (get(b, row, LENGTH) == n + 2)
+        set_end_row(b, side == LEFT ? RIGHT : LEFT, row);
+    return is_new ? answer(true, row, 0, 0) : 0;
+}
+
+/* Clears row q and the edge that leads to it; it changes places with the last row in use. */
+static void drop(uint8_t *b, unsigned q)
+{
+    unsigned last = count_of(b) - 1, rank = get(b, q, RANK), moved = get(b, last + 2, ORDER);
+    put_edge(b, get(b, q, INNER), (uint8_t)get(b, q, OUTER), 0);
+    memset(b + ROW_BYTES * q, 0, 8);
+    put(b, rank + 2, ORDER, moved);
+    put(b, moved, RANK, rank);
+    put(b, last + 2, ORDER, q);
+    put(b, q, RANK, last);
+    put(b, 0, 10, last);
+}
+
+uint64_t bare_remove(uint8_t *b, enum side side)
+{
+    unsigned n = size_of(b), q = end_row(b, side), last = EMPTY;
+    struct view v = view_of(b, side);
+    bool met = false;
+    for (size_t k = 0; k + 1 < n; k++) {
+        last = step(b, v, k, last, seen(v, k));
+        met |= last == q;
+    }
+    uint8_t letter = seen(v, n - 1);
+    if (get(b, q, LENGTH) == n + 1)
+        set_end_row(b, side == LEFT ? RIGHT : LEFT, get(b, q, LINK));
+    set_end_row(b, side, last);
+    uint8_t *w = b + (letters_of(b) - b);
+    if (side == LEFT)
+        memmove(w, w + 1, n - 1);
+    w[n - 1] = 0;
+    put(b, 0, 9, n - 1);
+    if (!met)
+        drop(b, q);
+    return met ? answer(false, 0, letter, 0) : answer(true, q, letter, 0);
+}
+
+uint64_t twin_fill(uint8_t *b, size_t length, const uint8_t *letters, size_t n)
+{
+    (void)length;
+    bare_open(b, 1024);
+    for (size_t i = 0; i < n; i++)
+        bare_add(b, RIGHT, letters[i]);
+    return n;
+}

@@ -1,0 +1,110 @@
+/* The twin's questions that answer numbers, and spelling and finding. */
+#include "links.h"
+#include "twin.h"
+
+uint64_t twin_length(const uint8_t *store, size_t length)
+{
+    return twin_is_good(store, length) ? answer(false, 0, size_of(store), 0) : 3;
+}
+
+uint64_t twin_count(const uint8_t *store, size_t length)
+{
+    return twin_is_good(store, length) ? answer(false, 0, count_of(store), 0) : 3;
+}
+
+uint64_t twin_letter(const uint8_t *store, size_t length, uint64_t place)
+{
+    if (!twin_is_good(store, length))
+        return 3;
+    if (place >= size_of(store))
+        return 7;
+    return answer(false, 0, letters_of(store)[place], 0);
+}
+
+uint64_t twin_longest(const uint8_t *store, size_t length)
+{
+    if (!twin_is_good(store, length))
+        return 3;
+    unsigned n = size_of(store), row = EMPTY, most = 0, place = 0;
+    if (n == 0)
+        return 6;
+    struct view v = view_of(store, RIGHT);
+    for (unsigned k = 0; k < n; k++) {
+        row = step(store, v, k, row, v.first[k]);
+        unsigned here = get(store, row, LENGTH) - 1;
+        if (here > most) {
+            most = here;
+            place = k + 1 - here;
+        }
+    }
+    return answer(false, 0, most, place);
+}
+
+static uint64_t longest_at(const uint8_t *store, size_t length, enum side side)
+{
+    if (!twin_is_good(store, length))
+        return 3;
+    unsigned n = size_of(store), end = end_row(store, side), row = EMPTY;
+    if (n == 0)
+        return 6;
+    struct view v = view_of(store, side);
+    bool met = false;
+    for (size_t k = 0; k + 1 < n; k++) {
+        row = step(store, v, k, row, seen(v, k));
+        met |= row == end;
+    }
+    return answer(!met, end, 0, 0);
+}
+
+uint64_t twin_longest_left(const uint8_t *store, size_t length) { return longest_at(store, length, LEFT); }
+uint64_t twin_longest_right(const uint8_t *store, size_t length) { return longest_at(store, length, RIGHT); }
+
+static bool row_used(const uint8_t *b, uint64_t row)
+{
+    return row < 2 || (row < (uint64_t)capacity_of(b) + 2 && get(b, row, RANK) < count_of(b));
+}
+
+uint64_t twin_row(const uint8_t *store, size_t length, uint64_t row)
+{
+    if (!twin_is_good(store, length))
+        return 3;
+    if (!row_used(store, row))
+        return 7;
+    return answer(false, get(store, row, LINK), (get(store, row, LENGTH) - 1) & 0xffff, get(store, row, INNER));
+}
+
+uint64_t twin_spell(const uint8_t *store, size_t length, uint64_t row, uint8_t *out, size_t out_length)
+{
+    if (!twin_is_good(store, length))
+        return 3;
+    if (!row_used(store, row))
+        return 7;
+    size_t n = row == IMAGINARY ? 0 : get(store, row, LENGTH) - 1;
+    if (out_length < n)
+        return 9;
+    for (size_t at = 0; row > EMPTY; at++, row = get(store, row, INNER))
+        out[at] = out[n - 1 - at] = (uint8_t)get(store, row, OUTER);
+    return answer(false, 0, (unsigned)n, 0);
+}
+
+uint64_t twin_find(const uint8_t *store, size_t length, const uint8_t *piece, size_t n)
+{
+    if (!twin_is_good(store, length))
+        return 3;
+    if (n == 0)
+        return 8;
+    for (size_t i = 0; i < n; i++)
+        if (!letter_table[piece[i]])
+            return 4;
+    if (n > size_of(store))
+        return 0;
+    unsigned row = n % 2 == 0 ? EMPTY : IMAGINARY;
+    for (size_t k = n / 2; k < n; k++) {
+        if (piece[n - 1 - k] != piece[k])
+            return 0;
+        row = edge_of(store, row, piece[k]);
+        if (row == 0)
+            return 0;
+    }
+    return answer(true, row, 0, 0);
+}

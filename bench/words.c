@@ -1,0 +1,46 @@
+/* Random DNA has few palindromes and short link chains; all-A, (AC)* and the Fibonacci word have as many palindromes
+ * as letters and long chains; the Thue-Morse word lies between. */
+#include "words.h"
+
+const char *const word_names[WORDS] = {"random", "all-A", "(AC)*", "Fibonacci", "Thue-Morse"};
+
+uint32_t next_random(uint32_t *state)
+{
+    *state ^= *state << 13;
+    *state ^= *state >> 17;
+    *state ^= *state << 5;
+    return *state;
+}
+
+static void fibonacci(uint8_t *out, size_t n)
+{
+    size_t shorter = 1, whole = 2;
+    for (size_t i = 0; i < n && i < 2; i++)
+        out[i] = i == 0 ? 'A' : 'C';
+    while (whole < n) {
+        for (size_t i = 0; i < shorter && whole + i < n; i++)
+            out[whole + i] = out[i];
+        size_t longer = whole + shorter;
+        shorter = whole;
+        whole = longer;
+    }
+}
+
+void make_word(int which, uint8_t *out, size_t n)
+{
+    uint32_t seed = 20250101;
+    if (which == 3) {
+        fibonacci(out, n);
+        return;
+    }
+    for (size_t i = 0; i < n; i++) {
+        if (which == 0)
+            out[i] = (uint8_t)"ACGT"[next_random(&seed) >> 30];
+        else if (which == 1)
+            out[i] = 'A';
+        else if (which == 2)
+            out[i] = i % 2 ? 'C' : 'A';
+        else
+            out[i] = __builtin_parityl(i) ? 'C' : 'A';
+    }
+}

@@ -1,0 +1,17 @@
+/* The words that the benchmark runs on: the ordinary case and four that are hard for palindromes. */
+#ifndef BENCH_WORDS_H
+#define BENCH_WORDS_H
+
+#include <stddef.h>
+#include <stdint.h>
+
+enum { WORDS = 5 };
+extern const char *const word_names[WORDS];
+
+/* Writes the first n letters of a word. */
+void make_word(int which, uint8_t *out, size_t n);
+
+/* The next number of a sequence that is the same in every run. */
+uint32_t next_random(uint32_t *state);
+
+#endif
