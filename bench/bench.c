@@ -1,0 +1,152 @@
+/* The benchmark: the library beside its C twin, in one run, on five words and four sizes.
+ *
+ * Prints ratios, library over twin, since times of one machine say little; a ratio above the limit is marked with !.
+ * The argument names the file that gets the drawing of growth. Ends with 1 if a tested call at 1,000 letters is above
+ * the limit. */
+#include "calls.h"
+#include "timing.h"
+#include "words.h"
+
+static const size_t sizes[] = {125, 250, 500, 1000};
+enum { SIZES = 4, SAMPLES = 1500, ROUNDS = 5 };
+
+static void heading(const char *title)
+{
+    printf("\n%-26s", title);
+    for (int w = 0; w < WORDS; w++)
+        printf("%13s", word_names[w]);
+    puts("");
+}
+
+static const char *mark(double ratio) { return ratio > RATIO_LIMIT ? "!" : " "; }
+
+/* Every tested call at n letters; how many ratios are above the limit. */
+static int tested_calls(size_t n)
+{
+    char title[64];
+    int above = 0;
+    snprintf(title, sizeof title, "%zu letters", n);
+    heading(title);
+    for (int c = 0; c < CALLS; c++) {
+        printf("  %-24s", calls[c].name);
+        for (int w = 0; w < WORDS; w++) {
+            struct pair t = time_call(c, w, n, SAMPLES);
+            double ratio = t.library / t.twin;
+            above += ratio > RATIO_LIMIT;
+            printf("%6.1f %5.2f%s", t.library, ratio, mark(ratio));
+        }
+        puts("");
+    }
+    return above;
+}
+
+/* The test against one reading pass over the bytes that it must look at. */
+static void against_floor(void)
+{
+    puts("\nThe test alone (length: the test and one read), in microseconds, and as a multiple of one reading pass");
+    heading("letters, pass");
+    for (int i = 0; i < SIZES; i++) {
+        double floor = time_floor(sizes[i] + 24, SAMPLES);
+        printf("  %4zu   %6.2f             ", sizes[i], floor);
+        for (int w = 0; w < WORDS; w++) {
+            double us = time_call(TEST_ALONE, w, sizes[i], SAMPLES).library;
+            printf("%6.1f %5.1f ", us, us / floor);
+        }
+        puts("");
+    }
+}
+
+static void row_of_ways(const char *name, const struct ways *ways)
+{
+    printf("  %-10s tested, library ", name);
+    for (int w = 0; w < WORDS; w++)
+        printf("%12.3f ", ways[w].tested);
+    printf("\n  %-10s untested, twin  ", name);
+    for (int w = 0; w < WORDS; w++)
+        printf("%12.3f ", ways[w].untested);
+    printf("\n  %-10s surfaces        ", name);
+    for (int w = 0; w < WORDS; w++)
+        printf("%12.3f ", ways[w].surface);
+    puts("");
+}
+
+/* What the test and the lent store cost beside the best known method, which has neither. */
+static void against_surfaces(void)
+{
+    struct ways add[WORDS], take[WORDS];
+    puts("\nA change at the right end of 1,000 letters, in microseconds");
+    heading("");
+    for (int w = 0; w < WORDS; w++)
+        time_changes(w, 1000, SAMPLES / 5, &add[w], &take[w]);
+    row_of_ways("add", add);
+    row_of_ways("remove", take);
+}
+
+/* The untested fill of a record; how many ratios are above the limit. */
+static int untested_fill(void)
+{
+    int above = 0;
+    puts("\nFilling a record with 1,000 letters with no test between, in nanoseconds for each letter");
+    heading("");
+    printf("  %-24s", "fill");
+    for (int w = 0; w < WORDS; w++) {
+        struct pair t = time_fill(w, 1000, SAMPLES);
+        double ratio = t.library / t.twin;
+        above += ratio > RATIO_LIMIT || ratio < 0;
+        if (t.library == 0)
+            printf("%6.1f  none ", t.twin);
+        else
+            printf("%6.1f %5.2f%s", t.library, ratio, mark(ratio));
+    }
+    puts("");
+    return above;
+}
+
+/* Measures a call on a word at every size of the drawing, in rounds, so that no size has the machine's bad moment. */
+static void measure_growth(int call, int word, double *us)
+{
+    for (int round = 0; round < ROUNDS; round++)
+        for (int i = 0; i < POINTS; i++) {
+            double now = time_call(call, word, (size_t)(i + 1) * POINT_STEP, SAMPLES / ROUNDS).library;
+            us[i] = round == 0 || now < us[i] ? now : us[i];
+        }
+}
+
+/* Draws the cost of the addition and of the test against n, and prints how it grows. */
+static void growth(FILE *out)
+{
+    static struct panel panels[2] = {{.title = "add right, tested (microseconds)"},
+                                     {.title = "the test alone (microseconds)"}};
+    static const int shown[2] = {ADD_RIGHT, TEST_ALONE};
+    puts("\nCost at 1,000 letters over cost at 125: 8 times the letters, 6.9 times the bytes of the store");
+    heading("");
+    for (int p = 0; p < 2; p++) {
+        printf("  %-24s", calls[shown[p]].name);
+        for (int w = 0; w < WORDS; w++) {
+            measure_growth(shown[p], w, panels[p].us[w]);
+            printf("%12.1f ", panels[p].us[w][POINTS - 1] / panels[p].us[w][0]);
+        }
+        puts("");
+    }
+    draw(out, panels, 2);
+}
+
+int main(int count, char **arguments)
+{
+    FILE *out = count == 2 ? fopen(arguments[1], "w") : NULL;
+    if (!out) {
+        fprintf(stderr, "usage: bench DRAWING.svg\n");
+        return 2;
+    }
+    puts("Tested calls: microseconds of the library, and their ratio to the twin's; ! where above 1.5");
+    int above = 0;
+    for (int i = 0; i < SIZES; i++)
+        above = tested_calls(sizes[i]);
+    against_floor();
+    against_surfaces();
+    above += untested_fill();
+    growth(out);
+    fclose(out);
+    printf("\n%d ratios above %.1f at 1,000 letters\n", above, RATIO_LIMIT);
+    return above != 0;
+}

@@ -1,0 +1,77 @@
+/* The stack that each call takes. A call runs on a stack of its own, painted beforehand, and the deepest byte that it
+ * changed is looked up afterwards; a call of an empty function is taken off. The records are full ones of 1,024
+ * letters, a letter less for additions, where spelling and finding have the longest palindrome there is and the list
+ * the most lines. Ends with 1 if a call takes more than 64 KiB. */
+#include <stdio.h>
+#include <string.h>
+#include <ucontext.h>
+
+#include "calls.h"
+#include "words.h"
+
+enum { STACK = 1 << 20, PAINT = 0xa5, LIMIT = 64 * 1024 };
+
+static uint8_t stack[STACK];
+static struct sitting s, before;
+static ucontext_t here, there;
+static uint64_t (*running)(struct sitting *);
+static uint64_t answer;
+
+static void on_stack(void) { answer = running(&s); }
+
+/* Bytes of the painted stack that a call changed. */
+static size_t depth_of(uint64_t (*call)(struct sitting *))
+{
+    memset(stack, PAINT, sizeof stack);
+    running = call;
+    getcontext(&there);
+    there.uc_stack.ss_sp = stack;
+    there.uc_stack.ss_size = sizeof stack;
+    there.uc_link = &here;
+    makecontext(&there, on_stack, 0);
+    swapcontext(&here, &there);
+    size_t untouched = 0;
+    while (untouched < sizeof stack && stack[untouched] == PAINT)
+        untouched++;
+    return sizeof stack - untouched;
+}
+
+static uint64_t nothing(struct sitting *unused)
+{
+    (void)unused;
+    return 0;
+}
+
+/* The most that a call takes over the words; 0 where it was refused, which would measure little. */
+static size_t most_of(int call, size_t *word)
+{
+    size_t most = 0;
+    for (int w = 0; w < WORDS; w++) {
+        bool adds = strncmp(calls[call].name, "add", 3) == 0;
+        seat(&s, w, adds ? CAPACITY_MOST - 1 : CAPACITY_MOST, CAPACITY_MOST);
+        before = s;
+        calls[call].library(&s); /* once, so that the loader has bound what the call needs */
+        s = before;
+        size_t empty = depth_of(nothing), depth = depth_of(calls[call].library) - empty;
+        if ((answer & 0xff) != 0)
+            return 0;
+        if (depth > most) {
+            most = depth;
+            *word = (size_t)w;
+        }
+    }
+    return most;
+}
+
+int main(void)
+{
+    int bad = 0;
+    puts("\nStack of each call, bytes, and the word that takes most");
+    for (int call = 0; call < CALLS; call++) {
+        size_t word = 0, most = most_of(call, &word);
+        bad += most == 0 || most > LIMIT;
+        printf("  %-24s%8zu  %s%s\n", calls[call].name, most, word_names[word],
+               most == 0 ? "  refused!" : most > LIMIT ? "  above 64 KiB!" : "");
+    }
+    return bad != 0;
+}

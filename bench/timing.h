@@ -1,0 +1,43 @@
+/* What the benchmark measures and prints. */
+#ifndef BENCH_TIMING_H
+#define BENCH_TIMING_H
+
+#include <stddef.h>
+#include <stdint.h>
+#include <stdio.h>
+
+/* Microseconds of the library and of the twin for the same work. */
+struct pair {
+    double library, twin;
+};
+
+/* The ratio that a tested call may reach at 1,000 letters. */
+#define RATIO_LIMIT 1.5
+
+enum { TEST_ALONE = 5, ADD_RIGHT = 2 };
+
+/* One call on n letters of a word; the smallest of many samples, library and twin in turn. */
+struct pair time_call(int call, int word, size_t n, int samples);
+
+/* One pass that reads the bytes that a store of this capacity uses. */
+double time_floor(size_t capacity, int samples);
+
+/* Changes in a row at n letters by the library's tested call, the twin with no test, and surface recording;
+ * microseconds for one change. */
+struct ways {
+    double tested, untested, surface;
+};
+void time_changes(int word, size_t n, int samples, struct ways *add, struct ways *take);
+
+/* An untested fill of n letters; the library's is 0 where it exports none, -1 where it leaves other bytes. */
+struct pair time_fill(int word, size_t n, int samples);
+
+/* Cost against n, for each word: one panel of the drawing of growth. */
+enum { POINTS = 8, POINT_STEP = 125 };
+struct panel {
+    const char *title;
+    double us[5][POINTS];
+};
+void draw(FILE *out, const struct panel *panels, int count);
+
+#endif
