@@ -30,9 +30,14 @@ BOTH(spell, (s->store, s->length, s->row, s->out, s->out_length))
 BOTH(find, (s->store, s->length, s->piece, s->piece_length))
 BOTH(list, (s->store, s->length, NAME, s->scratch, s->scratch_length, s->out, s->out_length))
 
+static uint64_t spell_by_loop(struct sitting *s)
+{
+    return twin_spell_by_loop(s->store, s->length, s->row, s->out, s->out_length);
+}
+
 #define CALL(name, changes) {#name, changes, library_##name, plain_##name}
 
-const struct call calls[CALLS] = {
+const struct call calls[PAIRS] = {
     CALL(open, true),
     CALL(add_left, true),
     CALL(add_right, true),
@@ -48,6 +53,7 @@ const struct call calls[CALLS] = {
     CALL(spell, false),
     CALL(find, false),
     CALL(list, false),
+    {"spell, twin loops", false, library_spell, spell_by_loop},
 };
 
 /* The row of the longest palindrome, by its length in the table. */

@@ -8,7 +8,7 @@
 #include <stdint.h>
 
 enum { CAPACITY_MOST = 1024, STORE_MOST = 48 * CAPACITY_MOST + 256, OUT_MOST = 45 * CAPACITY_MOST };
-enum { SCRATCH_MOST = 4 * CAPACITY_MOST, CALLS = 15 };
+enum { SCRATCH_MOST = 4 * CAPACITY_MOST, CALLS = 15, PAIRS = 16 };
 
 /* What a call is lent and told; the same store serves every call. */
 struct sitting {
@@ -24,7 +24,8 @@ struct call {
     uint64_t (*twin)(struct sitting *);
 };
 
-extern const struct call calls[CALLS];
+/* The calls, and last the spelling call once more beside a twin that loops instead of recursing. */
+extern const struct call calls[PAIRS];
 
 /* A record of n letters of a word at the given capacity, with arguments that make each call work hard: the row and
  * the piece are those of the longest palindrome. */

@@ -10,6 +10,8 @@
 #include "cells.h"
 #include "words.h"
 
+enum { LENGTH_CALL = 5, SPELL = 12, FIND = 13 };
+
 static struct sitting here, there;
 static unsigned long compared, refused;
 
@@ -27,7 +29,7 @@ static uint64_t compare(const struct call *call, const char *where)
 
 static void compare_all(const struct sitting *s, const char *where)
 {
-    for (int i = 0; i < CALLS; i++) {
+    for (int i = 0; i < PAIRS; i++) {
         here = there = *s;
         compare(&calls[i], where);
     }
@@ -36,7 +38,9 @@ static void compare_all(const struct sitting *s, const char *where)
 /* Spelling and listing into a buffer that just fits, and into one that is a byte short. */
 static void tight(const struct sitting *s)
 {
-    for (int i = 12; i < CALLS; i += 2) {
+    for (int i = SPELL; i < PAIRS; i++) {
+        if (i == FIND)
+            continue;
         here = there = *s;
         size_t fits = compare(&calls[i], "a large buffer") >> 32 & 0xffff;
         for (size_t less = 0; less < 2 && less <= fits; less++) {
@@ -75,7 +79,7 @@ static void sittings(uint32_t seed, size_t capacity, int letters, int steps)
         here.place = there.place = r / 11 % (capacity + 1);
         size_t what = r / 64 % 40;
         bool rising = i / 300 % 3 != 2;
-        compare(&calls[what < CALLS && what > 4 ? what : (rising ? 1 : 3) + r / 4096 % 2], "a sitting");
+        compare(&calls[what < PAIRS && what > 4 ? what : (rising ? 1 : 3) + r / 4096 % 2], "a sitting");
     }
 }
 
@@ -98,7 +102,7 @@ static void damage(uint32_t seed, int word, size_t n, size_t capacity, int tries
                 put(here.store, at / 24, at % 24 / 2, (next_random(&seed) >> 4) % (unsigned)(capacity + 3));
         }
         there = here;
-        if (compare(&calls[5], "a damaged store") == 3)
+        if (compare(&calls[LENGTH_CALL], "a damaged store") == 3)
             refused++;
     }
 }

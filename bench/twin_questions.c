@@ -73,15 +73,43 @@ uint64_t twin_row(const uint8_t *store, size_t length, uint64_t row)
     return answer(false, get(store, row, LINK), (get(store, row, LENGTH) - 1) & 0xffff, get(store, row, INNER));
 }
 
-uint64_t twin_spell(const uint8_t *store, size_t length, uint64_t row, uint8_t *out, size_t out_length)
+/* What spelling a row needs: 3, 7 or 9, or 0 where it can be spelt, and then its length. */
+static uint64_t judge_spell(const uint8_t *store, size_t length, uint64_t row, size_t out_length, size_t *n)
 {
     if (!twin_is_good(store, length))
         return 3;
     if (!row_used(store, row))
         return 7;
-    size_t n = row == IMAGINARY ? 0 : get(store, row, LENGTH) - 1;
-    if (out_length < n)
-        return 9;
+    *n = row == IMAGINARY ? 0 : get(store, row, LENGTH) - 1;
+    return out_length < *n ? 9 : 0;
+}
+
+/* Outwards from the inner row, by recursion: the form that the library has. */
+static void spell_at(const uint8_t *b, unsigned row, uint8_t *out, size_t at)
+{
+    if (row < 2)
+        return;
+    uint8_t letter = (uint8_t)get(b, row, OUTER);
+    spell_at(b, get(b, row, INNER), out, at + 1);
+    out[at] = out[at + get(b, row, LENGTH) - 2] = letter;
+}
+
+uint64_t twin_spell(const uint8_t *store, size_t length, uint64_t row, uint8_t *out, size_t out_length)
+{
+    size_t n;
+    uint64_t refusal = judge_spell(store, length, row, out_length, &n);
+    if (refusal != 0)
+        return refusal;
+    spell_at(store, (unsigned)row, out, 0);
+    return answer(false, 0, (unsigned)n, 0);
+}
+
+uint64_t twin_spell_by_loop(const uint8_t *store, size_t length, uint64_t row, uint8_t *out, size_t out_length)
+{
+    size_t n;
+    uint64_t refusal = judge_spell(store, length, row, out_length, &n);
+    if (refusal != 0)
+        return refusal;
     for (size_t at = 0; row > EMPTY; at++, row = get(store, row, INNER))
         out[at] = out[n - 1 - at] = (uint8_t)get(store, row, OUTER);
     return answer(false, 0, (unsigned)n, 0);
