@@ -8,7 +8,7 @@
 #include "words.h"
 
 static const size_t sizes[] = {125, 250, 500, 1000};
-enum { SIZES = 4, SAMPLES = 1500, ROUNDS = 5 };
+enum { SIZES = 4, SAMPLES = 2000, ROUNDS = 10 };
 
 static void heading(const char *title)
 {
@@ -20,20 +20,35 @@ static void heading(const char *title)
 
 static const char *mark(double ratio) { return ratio > RATIO_LIMIT ? "!" : " "; }
 
-/* Every tested call at n letters; how many ratios are above the limit. */
-static int tested_calls(size_t n)
+/* Times every call on every word in rounds, so that no pair has the machine's bad moment alone. */
+static void measure_calls(size_t n, struct pair least[PAIRS][WORDS])
 {
+    for (int round = 0; round < ROUNDS; round++)
+        for (int c = 0; c < PAIRS; c++)
+            for (int w = 0; w < WORDS; w++) {
+                struct pair t = time_call(c, w, n, SAMPLES / ROUNDS), *to = &least[c][w];
+                to->library = round == 0 || t.library < to->library ? t.library : to->library;
+                to->twin = round == 0 || t.twin < to->twin ? t.twin : to->twin;
+            }
+}
+
+/* Every tested call at n letters; how many ratios are above the limit. The times of the test alone go to `test`. */
+static int tested_calls(size_t n, double *test)
+{
+    static struct pair least[PAIRS][WORDS];
     char title[64];
     int above = 0;
     snprintf(title, sizeof title, "%zu letters", n);
     heading(title);
+    measure_calls(n, least);
+    for (int w = 0; w < WORDS; w++)
+        test[w] = least[TEST_ALONE][w].library;
     for (int c = 0; c < PAIRS; c++) {
         printf("  %-24s", calls[c].name);
         for (int w = 0; w < WORDS; w++) {
-            struct pair t = time_call(c, w, n, SAMPLES);
-            double ratio = t.library / t.twin;
+            double us = least[c][w].library, ratio = us / least[c][w].twin;
             above += c < CALLS && ratio > RATIO_LIMIT;
-            printf("%6.1f %5.2f%s", t.library, ratio, mark(ratio));
+            printf("%6.1f %5.2f%s", us, ratio, mark(ratio));
         }
         puts("");
     }
@@ -41,17 +56,20 @@ static int tested_calls(size_t n)
 }
 
 /* The test against one reading pass over the bytes that it must look at. */
-static void against_floor(void)
+static void against_floor(double test[SIZES][WORDS])
 {
+    double floor[SIZES] = {0};
+    for (int round = 0; round < ROUNDS; round++)
+        for (int i = 0; i < SIZES; i++) {
+            double now = time_floor(sizes[i] + 24, SAMPLES / ROUNDS);
+            floor[i] = round == 0 || now < floor[i] ? now : floor[i];
+        }
     puts("\nThe test alone (length: the test and one read), in microseconds, and as a multiple of one reading pass");
     heading("letters, pass");
     for (int i = 0; i < SIZES; i++) {
-        double floor = time_floor(sizes[i] + 24, SAMPLES);
-        printf("  %4zu   %6.2f             ", sizes[i], floor);
-        for (int w = 0; w < WORDS; w++) {
-            double us = time_call(TEST_ALONE, w, sizes[i], SAMPLES).library;
-            printf("%6.1f %5.1f ", us, us / floor);
-        }
+        printf("  %4zu   %6.2f             ", sizes[i], floor[i]);
+        for (int w = 0; w < WORDS; w++)
+            printf("%6.1f %5.1f ", test[i][w], test[i][w] / floor[i]);
         puts("");
     }
 }
@@ -139,10 +157,11 @@ int main(int count, char **arguments)
         return 2;
     }
     puts("Tested calls: microseconds of the library, and their ratio to the twin's; ! where above 1.5");
+    double test[SIZES][WORDS];
     int above = 0;
     for (int i = 0; i < SIZES; i++)
-        above = tested_calls(sizes[i]);
-    against_floor();
+        above = tested_calls(sizes[i], test[i]);
+    against_floor(test);
     against_surfaces();
     above += untested_fill();
     growth(out);
