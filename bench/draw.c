@@ -1,4 +1,5 @@
-/* The drawing of growth, written as SVG by hand: a panel for each call, a line for each word, microseconds against n. */
+/* The drawing of growth, written as SVG by hand: a panel for each call, a line for each word, microseconds against
+ * letters. */
 #include "timing.h"
 #include "words.h"
 
