@@ -1,8 +1,8 @@
 -- What an opening, an addition and a removal promise, on plain values: the verdict, and what is left where the call is carried out.
-use Prim.Native.Nat.{ℕ, suc, _+_, _*_, _≤_, _<_}
+use Prim.Native.Nat.{ℕ, _+_, _*_, _≤_, _<_}
 use mathlib.Core.Path.{_≡_, refl, sym, ap, ap₂, _∙_, subst}
 use mathlib.Core.Bool.{Bool, true, false, cond, _&&_}
-use mathlib.Core.List.{List, []}
+use mathlib.Core.List.{[]}
 use native.Mathlib.Omega.{arith}
 use lib.Dec.{leb}
 use lib.ListN.{length}
@@ -10,8 +10,8 @@ use borrow.Author.Tests.{le-leb, lt-leb, leb-true, leb-false}
 use Rattle.palindromes.specs.Word.{Word, isLetter}
 use Rattle.palindromes.specs.End.{End, letterAt}
 use Rattle.palindromes.specs.Node.{spelt}
-use Rattle.palindromes.specs.Refusal.{opening, add, remove, storeSize, refusal}
-use Rattle.palindromes.proofs.Tests.{both-are, not-true-false, decided}
+use Rattle.palindromes.specs.Refusal.{add, remove, storeSize, refusal}
+use Rattle.palindromes.proofs.Tests.{both-are}
 use Rattle.palindromes.proofs.Words.{no-letters}
 use Rattle.store.specs.Layout.{capacityIn, sizeIn, endRow, lettersIn}
 use Rattle.store.specs.Good.{ruleOf, Good}
@@ -21,15 +21,15 @@ use Rattle.updates.specs.Addition.{longestAfter, bringsIn, rowAfter, afterAddit
 use Rattle.updates.specs.Removal.{longestBefore, takesOut, afterRemoval}
 use Rattle.updates.proofs.Letters.{letter-byte}
 use Rattle.updates.proofs.Rows.{letters-length, end-row, end-small, free-row, row-small}
-use Rattle.changes.specs.declared.addition.Added.the-variants.{New, Known}
-use Rattle.changes.specs.declared.removal.Removed.the-variants.{Gone, Kept}
-use Rattle.changes.specs.Answers.{addedOf, removedOf}
+use Rattle.outcome.specs.declared.answers.Added.{Added}
+use Rattle.outcome.specs.declared.answers.Removed.{Removed}
 use Rattle.outcome.specs.Reply.{packed, accepted, refusedWith}
+use Rattle.outcome.specs.Answers.{addedOf, addedReply, removedOf, removedReply}
 use Rattle.outcome.specs.Outcome.{viewIn, acceptedOutcome, changed}
-use Rattle.outcome.specs.Promise.{nothing, Left, Promise, OpeningPromise}
-use Rattle.outcome.specs.Verdict.{Verdict, damaged, judged}
+use Rattle.outcome.specs.Promise.{nothing, Promise, OpeningPromise}
+use Rattle.outcome.specs.Verdict.{Verdict, judged}
 use Rattle.outcome.proofs.Refusals.{add-letter, add-full, add-accepted, remove-empty, remove-accepted, opening-capacity, opening-short, opening-accepted}
-use Rattle.outcome.proofs.Promises.{by-verdict, cleared, carried, opening-refused, opening-carried}
+use Rattle.outcome.proofs.Promises.{cleared, carried, opening-refused, opening-carried}
 
 -- ---- an opening
 
@@ -86,32 +86,26 @@ addable e c b n v z =
     space g l k true x = absurd (omega (arith, add-full b nothing e c l (omega (arith, leb-true (capacityIn b) (sizeIn b) x, letters-length (g .sized)))))
     space g l k false x = leb-false (capacityIn b) (sizeIn b) x
 
-pub free-small : (e : End) (c : ℕ) (b : Word) → Addable e c b → freeRow b < 65536
-free-small e c b a = row-small (a .good) (freeRow b) (free-row (a .good) (a .room) .1)
-
 pub letter-small : (c : ℕ) → isLetter c ≡ true → c < 256
 letter-small c h = letter-byte c h
 
-pub added : (e : End) (c : ℕ) (b : Word) (t : Bool) {r : ℕ} {b′ : Word} → Addable e c b → bringsIn e c b ≡ t → r ≡ packed (accepted t (cond t (freeRow b) 0) 0 0) → b′ ≡ afterAddition e c b
+-- the row of what an addition answers fits its two bytes
+pub added-fits : (e : End) (c : ℕ) (b : Word) (a : Added) → Addable e c b → a ≡ addedOf (bringsIn e c b) (freeRow b) → addedReply a .row < 65536
+unfolding addedReply accepted
+added-fits e c b a h q = subst (λ (x : Added). addedReply x .row < 65536) (sym q) (go (bringsIn e c b))
+  where
+    go : (t : Bool) → addedReply (addedOf t (freeRow b)) .row < 65536
+    go true = row-small (h .good) (freeRow b) (free-row (h .good) (h .room) .1)
+    go false = omega arith
+
+pub added : (e : End) (c : ℕ) (b : Word) (a : Added) {r : ℕ} {b′ : Word} → Addable e c b → a ≡ addedOf (bringsIn e c b) (freeRow b) → r ≡ packed (addedReply a) → b′ ≡ afterAddition e c b
     → Promise (add e c) b nothing r b′ nothing
 unfolding acceptedOutcome changed rowAfter
-added e c b t {r} a h p q = carried (add e c) b nothing (a .good) (a .clear) (record { reply = p ∙ go t h; store = q; lent = refl })
+added e c b a h q p s = carried (add e c) b nothing (h .good) (h .clear) (record { reply = p ∙ ap (λ (x : Added). packed (addedReply x)) (q ∙ go (bringsIn e c b)); store = s; lent = refl })
   where
-    go : (t : Bool) → bringsIn e c b ≡ t → packed (accepted t (cond t (freeRow b) 0) 0 0) ≡ packed (accepted (bringsIn e c b) (cond (bringsIn e c b) (rowAfter e c b) 0) 0 0)
-    go true k = ap (λ (x : Bool). packed (accepted x (cond x (cond x (freeRow b) (rowOf b (spelt (longestAfter e c b)))) 0) 0 0)) (sym k)
-    go false k = ap (λ (x : Bool). packed (accepted x (cond x (cond x (freeRow b) (rowOf b (spelt (longestAfter e c b)))) 0) 0 0)) (sym k)
-
--- what an answer tells of the definition behind it
-pub told-new : (t : Bool) (f : ℕ) (row : ℕ) → New row ≡ addedOf t f → (t ≡ true) × (row ≡ f)
-told-new true f row e = (refl, cc)
-told-new false f row e = absurd (let z : _≡_ {A = ℕ} 0 1 = cc in omega arith)
-
-pub told-known : (t : Bool) (f : ℕ) → Known ≡ addedOf t f → t ≡ false
-told-known true f e = absurd (let z : _≡_ {A = ℕ} 0 1 = cc in omega arith)
-told-known false f e = refl
-
-pub new-packs : (e : End) (c : ℕ) (b : Word) (row : ℕ) → Addable e c b → New row ≡ addedOf (bringsIn e c b) (freeRow b) → (row < 65536) × (0 < 65536) × (0 < 65536)
-new-packs e c b row a h = let t = told-new (bringsIn e c b) (freeRow b) row h in (omega (arith, free-small e c b a, t .1), omega arith, omega arith)
+    go : (t : Bool) → addedOf t (freeRow b) ≡ addedOf t (cond t (freeRow b) (rowOf b (spelt (longestAfter e c b))))
+    go true = refl
+    go false = refl
 
 -- ---- a removal
 
@@ -139,24 +133,18 @@ removable e b n v z =
     some g k true x = absurd (omega (arith, remove-empty b nothing e (no-letters (lettersIn b) (omega (arith, leb-true (sizeIn b) 0 x, letters-length (g .sized))))))
     some g k false x = leb-false (sizeIn b) 0 x
 
-pub end-row-small : (e : End) (b : Word) → Removable e b → endRow b e < 65536
-end-row-small e b a = end-small (a .good) e
+-- the row of what a removal answers fits its two bytes
+pub removed-fits : (e : End) (b : Word) (a : Removed) → Removable e b → a ≡ removedOf (takesOut e b) (letterAt e (lettersIn b)) (endRow b e) → removedReply a .row < 65536
+unfolding removedReply accepted
+removed-fits e b a h q = subst (λ (x : Removed). removedReply x .row < 65536) (sym q) (go (takesOut e b))
+  where
+    go : (t : Bool) → removedReply (removedOf t (letterAt e (lettersIn b)) (endRow b e)) .row < 65536
+    go true = end-small (h .good) e
+    go false = omega arith
 
-pub removed : (e : End) (b : Word) (t : Bool) {r : ℕ} {b′ : Word} → Removable e b → takesOut e b ≡ t → r ≡ packed (accepted t (cond t (endRow b e) 0) (letterAt e (lettersIn b)) 0) → b′ ≡ afterRemoval e b
+pub removed : (e : End) (b : Word) (a : Removed) {r : ℕ} {b′ : Word} → Removable e b → a ≡ removedOf (takesOut e b) (letterAt e (lettersIn b)) (endRow b e) → r ≡ packed (removedReply a) → b′ ≡ afterRemoval e b
     → Promise (remove e) b nothing r b′ nothing
 unfolding acceptedOutcome changed longestBefore
-removed e b t {r} a h p q = carried (remove e) b nothing (a .good) (a .clear) (record { reply = p ∙ row; store = q; lent = refl })
-  where
-    row : packed (accepted t (cond t (endRow b e) 0) (letterAt e (lettersIn b)) 0) ≡ packed (accepted (takesOut e b) (cond (takesOut e b) (rowOf b (spelt (longestBefore e b))) 0) (letterAt e (lettersIn b)) 0)
-    row = ap₂ (λ (x : Bool) (y : ℕ). packed (accepted x (cond x y 0) (letterAt e (lettersIn b)) 0)) (sym h) (end-row (a .good) e)
-
-pub told-gone : (t : Bool) (x f c row : ℕ) → Gone c row ≡ removedOf t x f → (t ≡ true) × (c ≡ x) × (row ≡ f)
-told-gone true x f c row e = (refl, cc, cc)
-told-gone false x f c row e = absurd (let z : _≡_ {A = ℕ} 0 1 = cc in omega arith)
-
-pub told-kept : (t : Bool) (x f c : ℕ) → Kept c ≡ removedOf t x f → (t ≡ false) × (c ≡ x)
-told-kept true x f c e = absurd (let z : _≡_ {A = ℕ} 0 1 = cc in omega arith)
-told-kept false x f c e = (refl, cc)
-
-pub gone-packs : (e : End) (b : Word) (c row n : ℕ) → Removable e b → Gone c row ≡ removedOf (takesOut e b) (letterAt e (lettersIn b)) (endRow b e) → n < 256 → (row < 65536) × (n < 65536) × (0 < 65536)
-gone-packs e b c row n a h m = let t = told-gone (takesOut e b) (letterAt e (lettersIn b)) (endRow b e) c row h in (omega (arith, end-row-small e b a, t .2), omega arith, omega arith)
+removed e b a h q p s =
+    carried (remove e) b nothing (h .good) (h .clear)
+    (record { reply = p ∙ ap (λ (x : Removed). packed (removedReply x)) (q ∙ ap (removedOf (takesOut e b) (letterAt e (lettersIn b))) (end-row (h .good) e)); store = s; lent = refl })

@@ -8,10 +8,9 @@ ghost use Rattle.store.specs.Side.{endOf};
 ghost use Rattle.outcome.specs.Promise.{nothing, Promise, OpeningPromise};
 ghost use Rattle.outcome.specs.Verdict.{Verdict};
 use changes::addition;
-use changes::addition::Added;
 use changes::opening;
 use changes::removal;
-use changes::removal::Removed;
+use outcome::answers;
 use outcome::pack;
 use outcome::refuse;
 use store::header;
@@ -75,11 +74,7 @@ pub fn add_letter(store: &mut [u8], side: Side, letter: u64) -> u64
     if number != 0 {
         return refuse(number);
     }
-    let added = addition::add(store, side, letter as u8);
-    match added {
-        Added::New(row) => pack(true, row, 0, 0),
-        Added::Known => pack(false, 0, 0, 0),
-    }
+    answers::answer_added(addition::add(store, side, letter as u8))
 }
 
 // The refusal number of a removal, 0 where it can be carried out.
@@ -103,9 +98,5 @@ pub fn remove_letter(store: &mut [u8], side: Side) -> u64
     if number != 0 {
         return refuse(number);
     }
-    let removed = removal::remove(store, side);
-    match removed {
-        Removed::Gone(letter, row) => pack(true, row, store::cells::wide(letter), 0),
-        Removed::Kept(letter) => pack(false, 0, store::cells::wide(letter), 0),
-    }
+    answers::answer_removed(removal::remove(store, side))
 }

@@ -1,6 +1,7 @@
 // An addition: the longest palindrome that the letter makes at its end is found by a walk, and where
 // it stood nowhere before it is hung into the table.
 use super::ends;
+use outcome::answers::Added;
 use store::cells;
 use store::header;
 use store::lengths;
@@ -23,15 +24,9 @@ ghost use Rattle.store.specs.Side.{endOf};
 ghost use Rattle.store.specs.Writes.{writes};
 ghost use Rattle.updates.specs.Rows.{rowOf, freeRow};
 ghost use Rattle.updates.specs.Addition.{longestAfter, bringsIn, afterAddition};
-ghost use Rattle.changes.specs.Answers.{addedOf};
+ghost use Rattle.outcome.specs.Answers.{addedOf};
 ghost use Rattle.walk.proofs.Towards.{letterTowards};
 ghost use Rattle.changes.specs.Steps.{Met, RowFor, Grown, rowHung};
-
-// What an addition answers: the row of the palindrome that came in, or that none did.
-pub enum Added {
-    New(usize),
-    Known,
-}
 
 // What a letter makes at an end: a palindrome that stood nowhere, with the row to write for it, or
 // one that stood before, in the row that is named.

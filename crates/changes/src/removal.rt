@@ -1,6 +1,7 @@
 // A removal: the letters that are left are read again, which tells whether the longest palindrome at
 // the end still stands and which is the longest there without the letter.
 use super::ends;
+use outcome::answers::Removed;
 use store::cells;
 use store::header;
 use store::letters;
@@ -20,14 +21,8 @@ ghost use Rattle.store.specs.Side.{endOf};
 ghost use Rattle.store.specs.Writes.{writes};
 ghost use Rattle.walk.specs.Replay.{lettersTowards, Holds, Surveyed};
 ghost use Rattle.updates.specs.Removal.{takesOut, dropWrites, afterRemoval};
-ghost use Rattle.changes.specs.Answers.{removedOf};
+ghost use Rattle.outcome.specs.Answers.{removedOf};
 ghost use Rattle.changes.specs.Steps.{Parts, Leaves, LeafOf, placesChanged};
-
-// What a removal answers: the letter, and the row of the palindrome that went, if one did.
-pub enum Removed {
-    Gone(u8, usize),
-    Kept(u8),
-}
 
 // What a removal finds before it writes: the letter, the row of the longest palindrome at its end,
 // whether that stands without the letter, and the rows of both ends without it.

@@ -1,3 +1,4 @@
--- laws of the outcomes: when a call is refused, and how a promise is kept
+-- laws of the outcomes: the reply of each answer, when a call is refused, and how a promise is kept
+pub mod Replies
 pub mod Refusals
 pub mod Promises

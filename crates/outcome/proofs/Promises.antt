@@ -13,7 +13,7 @@ use Rattle.palindromes.specs.Fasta.{Fasta, refused as faulty, accepted as read,
 use Rattle.palindromes.specs.Refusal.{Call, opening, fasta, refusal, fault, fastaFault}
 use Rattle.store.specs.Good.{ruleOf, Good}
 use Rattle.outcome.specs.Reply.{packed, refusedWith, accepted}
-use Rattle.outcome.specs.Outcome.{Lent, Outcome, viewIn, outcome, written, fastaReply, fastaLetters, acceptedOutcome, refusedOutcome, fastaOutcome, Answers}
+use Rattle.outcome.specs.Outcome.{Lent, Outcome, viewIn, outcome, written, fastaReply, fastaLetters, acceptedOutcome, refusedOutcome, fastaOutcome}
 use Rattle.outcome.specs.Promise.{nothing, Left, Promise, OpeningPromise, FastaPromise}
 use Rattle.outcome.specs.Verdict.{Verdict, damaged, judged}
 use Rattle.outcome.proofs.Refusals.{fasta-number, carried-out, refused-out}

@@ -1,10 +1,8 @@
 -- When a call on a good store is refused, and that it is never refused with 3. Assumes nothing.
 use Prim.Native.Nat.{ℕ, zero, suc, _*_, _<_, _≤_}
-use mathlib.Core.Path.{_≡_, refl, sym, ap, ap₂, _∙_, subst}
-use mathlib.Core.Bool.{Bool, true, false, cond, not, _&&_, true≢false}
-use mathlib.Core.Logic.{_⊎_, inl, inr}
+use mathlib.Core.Path.{_≡_, refl, sym, ap}
+use mathlib.Core.Bool.{Bool, true, false, not, _&&_}
 use mathlib.Core.List.{List, [], _∷_}
-use mathlib.Core.Option.{Option, none, some}
 use native.Mathlib.Omega.{arith}
 use lib.Dec.{leb, ltb}
 use lib.ListN.{length}
@@ -14,11 +12,11 @@ use Rattle.palindromes.specs.End.{End}
 use Rattle.palindromes.specs.Node.{spellingOf}
 use Rattle.palindromes.specs.Bed.{isIdentifier, listing}
 use Rattle.palindromes.specs.Fasta.{readFasta}
-use Rattle.palindromes.specs.Refusal.{Call, opening, add, remove, askLength, askCount, askLongest, askLongestAt, askLetter, askRow, spell, find, list, fasta, View, fault, firstFault, isFree, spellingLength, storeSize, fastaFault, faults, refusal}
+use Rattle.palindromes.specs.Refusal.{Call, opening, add, remove, askLength, askCount, askLongest, askLongestAt, askLetter, askRow, spell, find, list, fasta, fault, firstFault, isFree, spellingLength, storeSize, fastaFault, faults, refusal}
 use Rattle.palindromes.proofs.Tests.{non-empty-is}
 use Rattle.store.specs.Layout.{capacityIn, usedIn, lettersIn}
-use Rattle.store.specs.Good.{ruleOf, nodeIn, Good}
-use Rattle.outcome.specs.Outcome.{Lent, Outcome, viewIn, unlessRefused, outcome, acceptedOutcome, refusedOutcome}
+use Rattle.store.specs.Good.{ruleOf, nodeIn}
+use Rattle.outcome.specs.Outcome.{Lent, viewIn, unlessRefused, outcome, acceptedOutcome, refusedOutcome}
 
 -- the call takes a store, so that it may stand in a list
 abbrev pub Stored : Call → Type 0

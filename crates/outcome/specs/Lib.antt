@@ -1,4 +1,5 @@
 pub mod Reply
+pub mod Answers
 pub mod Outcome
 pub mod Promise
 pub mod Verdict

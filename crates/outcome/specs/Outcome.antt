@@ -1,7 +1,7 @@
 -- DEFINITIONS. The outcome of each store call: its reply, and what every lent byte holds after it. Nothing here is proved.
 use Prim.Native.Nat.{ℕ, zero, suc, _*_}
 use mathlib.Core.Path.{_≡_}
-use mathlib.Core.Bool.{Bool, true, false, cond}
+use mathlib.Core.Bool.{true, false, cond}
 use mathlib.Core.List.{[]}
 use mathlib.Core.Option.{none, some}
 use lib.ListN.{length, getD, replicate}
@@ -21,6 +21,7 @@ use Rattle.updates.specs.Opening.{opened}
 use Rattle.updates.specs.Addition.{bringsIn, rowAfter, afterAddition}
 use Rattle.updates.specs.Removal.{longestBefore, takesOut, afterRemoval}
 use Rattle.outcome.specs.Reply.{Reply, refusedWith, accepted, twosComplement}
+use Rattle.outcome.specs.Answers.{addedOf, addedReply, removedOf, removedReply, foundOf, foundReply}
 
 -- the buffers that are lent with a call, beside the store, for it to write to; empty where the call takes none
 pub record Lent : Type 0 where
@@ -71,9 +72,9 @@ fastaLetters (read n w) out = written w out
 -- an accepted call. 01 "Questions and changes"; a question changes no byte of the store
 unfoldable pub acceptedOutcome : Call → Word → Lent → Outcome
 acceptedOutcome (opening k) b l = changed (accepted false 0 0 0) (opened k b) l
-acceptedOutcome (add e c) b l = changed (accepted (bringsIn e c b) (cond (bringsIn e c b) (rowAfter e c b) 0) 0 0) (afterAddition e c b) l
+acceptedOutcome (add e c) b l = changed (addedReply (addedOf (bringsIn e c b) (rowAfter e c b))) (afterAddition e c b) l
 acceptedOutcome (remove e) b l =
-    changed (accepted (takesOut e b) (cond (takesOut e b) (rowOf b (spelt (longestBefore e b))) 0) (letterAt e (lettersIn b)) 0) (afterRemoval e b) l
+    changed (removedReply (removedOf (takesOut e b) (letterAt e (lettersIn b)) (rowOf b (spelt (longestBefore e b))))) (afterRemoval e b) l
 acceptedOutcome askLength b l = changed (accepted false 0 (length (lettersIn b)) 0) b l
 acceptedOutcome askCount b l = changed (accepted false 0 (count (ruleOf b) (lettersIn b)) 0) b l
 acceptedOutcome askLongest b l = changed (accepted false 0 (longestLength (ruleOf b) (lettersIn b)) (longestPlace (ruleOf b) (lettersIn b))) b l
@@ -91,15 +92,7 @@ acceptedOutcome (spell r) b l =
       store = b;
       lent = record { scratch = l .scratch; out = written (spellingOf (nodeIn b r)) (l .out) };
     }
-acceptedOutcome (find p) b l =
-    changed
-    (accepted
-    (member p (palindromes (ruleOf b) (lettersIn b)))
-    (cond (member p (palindromes (ruleOf b) (lettersIn b))) (rowOf b (spelt p)) 0)
-    0
-    0)
-    b
-    l
+acceptedOutcome (find p) b l = changed (foundReply (foundOf (member p (palindromes (ruleOf b) (lettersIn b))) (rowOf b (spelt p)))) b l
 acceptedOutcome (list name) b l =
     record {
       reply = accepted false 0 (length (listing (ruleOf b) name (lettersIn b))) 0;

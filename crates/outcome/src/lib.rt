@@ -1,5 +1,7 @@
 // What every call answers and leaves in the lent bytes, in specs/, and the packing of an answer
 // into one number.
+pub mod answers;
+
 ghost use mathlib.Core.Path.{_≡_};
 ghost use Prim.Native.Nat.{_<_};
 ghost use Rattle.outcome.specs.Reply.{bit, packed, accepted, refusedWith};

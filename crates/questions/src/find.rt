@@ -1,4 +1,5 @@
 // The search for a piece among the palindromes of the record.
+use outcome::answers::Found;
 use store::header;
 use store::letters::partner;
 use store::rows;
@@ -14,13 +15,7 @@ ghost use Rattle.palindromes.specs.Node.{spelt};
 ghost use Rattle.store.specs.Layout.{lettersIn};
 ghost use Rattle.store.specs.Good.{ruleOf, Good};
 ghost use Rattle.updates.specs.Rows.{rowOf};
-ghost use Rattle.questions.specs.Find.{foundOf};
-
-// The row of a palindrome of the record, or that the piece is none.
-pub enum Found {
-    At(usize),
-    Absent,
-}
+ghost use Rattle.outcome.specs.Answers.{foundOf};
 
 // The row in the centre of a palindrome of n letters: the empty string's for an even number, the
 // imaginary string's for an odd one.

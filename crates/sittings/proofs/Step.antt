@@ -1,27 +1,27 @@
 -- One more call: what it does to the state, and the first and third points of the claim.
-use Prim.Native.Nat.{ℕ, zero, suc, _+_, _≤_, _<_}
+use Prim.Native.Nat.{ℕ, suc, _<_}
 use mathlib.Core.Path.{_≡_, refl, sym, ap, ap₂, _∙_, subst, subst₂}
-use mathlib.Core.Bool.{Bool, true, false, cond, not, _&&_, true≢false}
-use mathlib.Core.Logic.{_⊎_, inl, inr, ⊎-elim}
-use mathlib.Core.List.{List, [], _∷_}
+use mathlib.Core.Bool.{Bool, true, false, cond, not, _&&_}
+use mathlib.Core.Logic.{_⊎_, ⊎-elim}
+use mathlib.Core.List.{[], _∷_}
 use native.Mathlib.Omega.{arith}
-use lib.Dec.{ltb, leb}
+use lib.Dec.{ltb}
 use lib.ListN.{length}
-use borrow.Author.Tests.{ltb-true, ltb-false, lt-ltb, not-true, not-false}
+use borrow.Author.Tests.{ltb-true, ltb-false, not-true, not-false}
 use Rattle.palindromes.specs.Word.{Word, isLetter, sameWord}
-use Rattle.palindromes.specs.Palindrome.{plain, Symmetric, Palindrome}
+use Rattle.palindromes.specs.Palindrome.{plain, Palindrome}
 use Rattle.palindromes.specs.Place.{Stands, stands}
 use Rattle.palindromes.specs.End.{End, added, removed, letterAt, longestAt, newIn}
-use Rattle.palindromes.specs.Node.{Node, spelt}
-use Rattle.palindromes.specs.Refusal.{Call, opening, add, remove, askLength, askCount, askLongest, askLongestAt, askLetter, askRow, spell, find, list, fasta, refusal}
-use Rattle.palindromes.proofs.Tests.{both-true, both-are, decided, same-true, same-is, same-refl, false-not-true, not-true-false}
+use Rattle.palindromes.specs.Node.{spelt}
+use Rattle.palindromes.specs.Refusal.{add, remove}
+use Rattle.palindromes.proofs.Tests.{both-true, decided, same-true, same-is, same-refl, false-not-true, not-true-false}
 use Rattle.palindromes.proofs.Words.{removed-empty, stands-or-not, same-or-not, added-not-empty, letter-added}
 use Rattle.palindromes.proofs.Change.{new-is-longest, stands-removed}
 use Rattle.palindromes.proofs.Places.{stands-true, stands-is, stands-empty}
 use Rattle.palindromes.proofs.Palindromes.{fresh, fresh-old, fresh-new}
 use Rattle.palindromes.proofs.NewIn.{longest-at, new-in-added, gone-in-added, gone-in-removed, new-in-removed}
-use Rattle.store.specs.Layout.{capacityIn, sizeIn, usedIn, lettersIn, endRow}
-use Rattle.store.specs.Good.{ruleOf, nodeIn, Good}
+use Rattle.store.specs.Layout.{capacityIn, sizeIn, usedIn, lettersIn}
+use Rattle.store.specs.Good.{nodeIn, Good}
 use Rattle.updates.specs.Rows.{rowOf, freeRow}
 use Rattle.updates.specs.Addition.{longestAfter, bringsIn, rowAfter as rowAfterAddition, afterAddition}
 use Rattle.updates.specs.Removal.{longestBefore, takesOut, afterRemoval}
@@ -32,10 +32,11 @@ use Rattle.updates.proofs.Removed as Updates·Removed
 use Rattle.updates.proofs.Removed.{removal}
 use Rattle.updates.proofs.Undone.{undone, takes-back}
 use Rattle.outcome.specs.Reply.{Reply, refusedWith, accepted}
-use Rattle.outcome.specs.Outcome.{Lent, Outcome, viewIn, unlessRefused, outcome, acceptedOutcome, refusedOutcome, changed, Answers}
-use Rattle.sittings.specs.Run.{Turn, Promised, lettersStep, rowStep}
+use Rattle.outcome.specs.Outcome.{Lent, Outcome, outcome, acceptedOutcome, refusedOutcome, changed, Answers}
+use Rattle.sittings.specs.Run.{lettersStep, rowStep}
 use Rattle.sittings.specs.Claims.{Moved, Added, Removed, Undone}
-use Rattle.outcome.proofs.Refusals.{Stored, never-three, add-letter, add-full, add-accepted, remove-empty, remove-accepted, carried-out, refused-out}
+use Rattle.outcome.proofs.Replies.{reply-of-added, reply-of-removed}
+use Rattle.outcome.proofs.Refusals.{add-letter, add-full, add-accepted, remove-empty, remove-accepted, carried-out, refused-out}
 use Rattle.sittings.proofs.State.{State}
 
 -- every letter is its own partner
@@ -136,7 +137,7 @@ module _ (k : ℕ) (s : Word) (row : Word → ℕ) (b : Word) (st : State k s ro
 
     reply-is : room ≡ true → o .reply ≡ accepted (bringsIn e c b) (cond (bringsIn e c b) (freeRow b) 0) 0 0
     unfolding acceptedOutcome changed rowAfterAddition
-    reply-is h = ap (λ (x : Outcome). x .reply) (add-carried h) ∙ go (bringsIn e c b)
+    reply-is h = ap (λ (x : Outcome). x .reply) (add-carried h) ∙ reply-of-added (bringsIn e c b) (rowAfterAddition e c b) ∙ go (bringsIn e c b)
       where
         go : (t : Bool) → accepted t (cond t (cond t (freeRow b) (rowOf b (spelt (longestAfter e c b)))) 0) 0 0 ≡ accepted t (cond t (freeRow b) 0) 0 0
         go true = refl
@@ -304,6 +305,7 @@ module _ (k : ℕ) (s : Word) (row : Word → ℕ) (b : Word) (st : State k s ro
     unfolding acceptedOutcome changed
     remove-reply h =
         ap (λ (x : Outcome). x .reply) (remove-carried h)
+        ∙ reply-of-removed (takesOut e b) (letterAt e (lettersIn b)) (rowOf b (spelt (longestBefore e b)))
         ∙ ap₂ (λ (x t : Word). accepted (takesOut e b) (cond (takesOut e b) (rowOf b (spelt x)) 0) (letterAt e t) 0) before-is (st .letters)
 
     pub remove-state : State k (removed e s) row (o .store)
@@ -399,6 +401,12 @@ module _ (k : ℕ) (s : Word) (row : Word → ℕ) (b : Word) (st : State k s ro
     first-reply : o .reply ≡ accepted (bringsIn e c b) (cond (bringsIn e c b) (freeRow b) 0) 0 0
     first-reply = reply-is k s row b st e c l o a in-room
 
+    second-reply : o′ .reply ≡ accepted (takesOut e (o .store)) (cond (takesOut e (o .store)) (rowOf (o .store) (spelt (longestBefore e (o .store)))) 0) (letterAt e (lettersIn (o .store))) 0
+    unfolding acceptedOutcome changed
+    second-reply =
+        ap (λ (x : Outcome). x .reply) removed-out
+        ∙ reply-of-removed (takesOut e (o .store)) (letterAt e (lettersIn (o .store))) (rowOf (o .store) (spelt (longestBefore e (o .store))))
+
     -- the row that goes is the one that came
     row-now : (t : Bool) → bringsIn e c b ≡ t → cond t (rowOf (o .store) (spelt (longestBefore e (o .store)))) 0 ≡ cond t (freeRow b) 0
     unfolding longestBefore longestAfter
@@ -413,10 +421,10 @@ module _ (k : ℕ) (s : Word) (row : Word → ℕ) (b : Word) (st : State k s ro
     unfolding accepted acceptedOutcome changed
     undone-claim =
         record {
-          accepted-too = ap (λ (x : Outcome). x .reply .number) removed-out;
-          same-letter = ap (λ (x : Outcome). x .reply .first) removed-out ∙ ap (letterAt e) letters-now ∙ letter-added e c s;
-          same-flag = ap (λ (x : Outcome). x .reply .flag) removed-out ∙ flag-now ∙ ap (λ (r : Reply). r .flag) (sym first-reply);
-          same-row = ap (λ (x : Outcome). x .reply .row) removed-out
+          accepted-too = ap (λ (r : Reply). r .number) second-reply;
+          same-letter = ap (λ (r : Reply). r .first) second-reply ∙ ap (letterAt e) letters-now ∙ letter-added e c s;
+          same-flag = ap (λ (r : Reply). r .flag) second-reply ∙ flag-now ∙ ap (λ (r : Reply). r .flag) (sym first-reply);
+          same-row = ap (λ (r : Reply). r .row) second-reply
               ∙ ap (λ (t : Bool). cond t (rowOf (o .store) (spelt (longestBefore e (o .store)))) 0) flag-now
               ∙ row-now (bringsIn e c b) refl
               ∙ ap (λ (r : Reply). r .row) (sym first-reply);

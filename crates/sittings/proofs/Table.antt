@@ -1,33 +1,32 @@
 -- The second point of the claim: what find, the row question and spell answer in a store whose state is known. Rests on `Refusals` and on the laws of rows.
-use Prim.Native.Nat.{ℕ, zero, suc, _+_, _≤_, _<_}
-use mathlib.Core.Path.{_≡_, refl, sym, ap, ap₂, _∙_, subst}
-use mathlib.Core.Bool.{Bool, true, false, cond, not, _&&_, true≢false}
-use mathlib.Core.Logic.{_⊎_, inl, inr, ⊎-elim}
-use mathlib.Core.List.{List, [], _∷_}
+use Prim.Native.Nat.{ℕ, _≤_}
+use mathlib.Core.Path.{_≡_, sym, ap, ap₂, _∙_, subst}
+use mathlib.Core.Bool.{Bool, true, false, cond}
+use mathlib.Core.List.{[], _∷_}
 use native.Mathlib.Omega.{arith}
 use lib.ListN.{length}
 use Rattle.palindromes.specs.Word.{Word, allLetters, member}
-use Rattle.palindromes.specs.Palindrome.{plain, Symmetric, Palindrome}
+use Rattle.palindromes.specs.Palindrome.{plain, Palindrome}
 use Rattle.palindromes.specs.Place.{Stands}
-use Rattle.palindromes.specs.Record.{palindromes, longestSuffix}
+use Rattle.palindromes.specs.Record.{palindromes}
 use Rattle.palindromes.specs.Node.{Node, imaginary, spelt, lengthOf, linkOf, innerOf, spellingOf}
-use Rattle.palindromes.specs.Refusal.{Call, askRow, spell, find, refusal}
-use Rattle.palindromes.proofs.Tests.{not-true-false, decided}
-use Rattle.palindromes.proofs.Words.{stands-trans}
+use Rattle.palindromes.specs.Refusal.{askRow, spell, find}
+use Rattle.palindromes.proofs.Tests.{not-true-false}
 use Rattle.palindromes.proofs.Palindromes.{palindromes-true, palindromes-is}
 use Rattle.palindromes.proofs.Growth.{link-stands, inner-of}
 use Rattle.palindromes.proofs.Longest.{longest-suffix}
 use Rattle.eertree.proofs.Covers.{NodeOf}
 use Rattle.eertree.proofs.Rows.{word-row, row-high}
-use Rattle.store.specs.Layout.{capacityIn, usedIn, lettersIn}
-use Rattle.store.specs.Good.{ruleOf, nodeIn, Good}
+use Rattle.store.specs.Layout.{usedIn, lettersIn}
+use Rattle.store.specs.Good.{nodeIn, Good}
 use Rattle.updates.specs.Rows.{rowOf}
 use Rattle.updates.proofs.Rows.{covers, row-of, row-of-node, row-of-imaginary, row-of-empty, used-below}
 use Rattle.updates.proofs.Letters.{letters-piece}
-use Rattle.outcome.specs.Reply.{Reply, refusedWith, accepted, twosComplement}
-use Rattle.outcome.specs.Outcome.{Lent, Outcome, viewIn, outcome, acceptedOutcome, refusedOutcome, changed, Answers}
+use Rattle.outcome.specs.Reply.{refusedWith, accepted, twosComplement}
+use Rattle.outcome.specs.Outcome.{Outcome, outcome, acceptedOutcome, refusedOutcome, changed}
 use Rattle.sittings.specs.Run.{Promised}
 use Rattle.sittings.specs.Claims.{Replies, numberOf, Table}
+use Rattle.outcome.proofs.Replies.{reply-of-found}
 use Rattle.outcome.proofs.Refusals.{find-accepted, row-accepted, row-free, spell-free, carried-out, refused-out}
 use Rattle.sittings.proofs.State.{State}
 
@@ -86,6 +85,7 @@ module _ (k : ℕ) (s : Word) (row : Word → ℕ) (b : Word) (st : State k s ro
       let out : outcome (find w) b l ≡ acceptedOutcome (find w) b l = carried-out (find w) b l (find-accepted b l w (p .non-empty) (letters-piece (in-store h) (good .letters))) in
       let there : member w (palindromes plain (lettersIn b)) ≡ true = palindromes-is plain w (lettersIn b) p (in-store h) in
       ap (λ (x : Outcome). x .reply) (a .good good ∙ out)
+      ∙ reply-of-found (member w (palindromes plain (lettersIn b))) (rowOf b (spelt w))
       ∙ ap₂ (λ (t : Bool) (r : ℕ). accepted t (cond t r 0) 0 0) there (sym (st .rows w p h))
 
   absent-reply : (w : Word) → (w ≡ [] → ⊥) → allLetters w ≡ true → (Palindrome plain w → Stands w s → ⊥) → Replies (find w) b (accepted false 0 0 0)
@@ -94,7 +94,9 @@ module _ (k : ℕ) (s : Word) (row : Word → ℕ) (b : Word) (st : State k s ro
       let out : outcome (find w) b l ≡ acceptedOutcome (find w) b l = carried-out (find w) b l (find-accepted b l w m g) in
       let missing : member w (palindromes plain (lettersIn b)) ≡ false =
       not-true-false (member w (palindromes plain (lettersIn b))) (λ e. let h = palindromes-true plain w (lettersIn b) e in n (h .0) (out-store (h .1))) in
-      ap (λ (x : Outcome). x .reply) (a .good good ∙ out) ∙ ap (λ (t : Bool). accepted t (cond t (rowOf b (spelt w)) 0) 0 0) missing
+      ap (λ (x : Outcome). x .reply) (a .good good ∙ out)
+      ∙ reply-of-found (member w (palindromes plain (lettersIn b))) (rowOf b (spelt w))
+      ∙ ap (λ (t : Bool). accepted t (cond t (rowOf b (spelt w)) 0) 0 0) missing
 
   fields-reply : (w : Word) → Palindrome plain w → Stands w s
       → Replies (askRow (row w)) b (accepted false (numberOf row (linkOf plain (spelt w))) (length w) (numberOf row (innerOf (spelt w))))

@@ -1,23 +1,25 @@
 -- The theorem about every whole list of calls, `every-list`: whatever the store held before an accepted opening, and whatever calls follow, all claims
 -- hold after the list. `goes-on` makes a list of any calls longer by any call, so that the theorem's hypothesis can be met.
-use Prim.Native.Nat.{ℕ, zero, suc, _+_, _≤_, _<_}
+use Prim.Native.Nat.{ℕ, zero, suc, _≤_}
 use mathlib.Core.Path.{_≡_, refl, sym, ap, _∙_, subst}
-use mathlib.Core.Bool.{Bool, true, false}
 use mathlib.Core.List.{List, [], _∷_}
 use native.Mathlib.Omega.{arith}
 use lib.ListN.{length, set, replicate}
 use lib.Seq.{sets}
-use Rattle.palindromes.specs.Word.{Word}
-use Rattle.palindromes.specs.Palindrome.{plain, Palindrome}
+use Rattle.palindromes.specs.Word.{Word, member}
+use Rattle.palindromes.specs.Palindrome.{plain}
 use Rattle.palindromes.specs.Place.{Stands}
-use Rattle.palindromes.specs.End.{End, removed}
+use Rattle.palindromes.specs.Record.{palindromes}
+use Rattle.palindromes.specs.End.{End, letterAt}
 use Rattle.palindromes.specs.Node.{Node, imaginary, spelt, linkOf, innerOf}
 use Rattle.palindromes.specs.Refusal.{Call, opening, add, remove, askLength, askCount, askLongest, askLongestAt, askLetter, askRow, spell, find, list, fasta, refusal, storeSize}
 use Rattle.palindromes.proofs.Words.{stands-of-empty}
 use Rattle.eertree.proofs.Covers.{NodeOf}
-use Rattle.store.specs.Layout.{capacityIn, lettersIn}
+use Rattle.store.specs.Layout.{lettersIn}
 use Rattle.store.specs.Good.{ruleOf, Good}
 use Rattle.updates.specs.Rows.{rowOf}
+use Rattle.updates.specs.Addition.{bringsIn, rowAfter as rowAfterAddition}
+use Rattle.updates.specs.Removal.{longestBefore, takesOut}
 use Rattle.updates.specs.Opening.{usedBytes, openingWrites, opened}
 use Rattle.updates.proofs.Determined.{Bytes}
 use Rattle.updates.proofs.AddedRuns.{bytes-set, bytes-writes}
@@ -25,7 +27,8 @@ use Rattle.updates.proofs.Opening.{opened-capacity, opened-letters, opened-good
 use Rattle.outcome.specs.Reply.{Reply, accepted, refusedWith}
 use Rattle.outcome.specs.Outcome.{Lent, Outcome, viewIn, unlessRefused, outcome, acceptedOutcome, refusedOutcome, changed, Answers}
 use Rattle.sittings.specs.Run.{Turn, Promised, Run, begun, turn, lettersStep, lettersAfter, rowStep, rowAfter}
-use Rattle.sittings.specs.Claims.{numberOf, Added, Removed, Further, Claims}
+use Rattle.sittings.specs.Claims.{numberOf, Added, Removed, Claims}
+use Rattle.outcome.proofs.Replies.{reply-of-added, reply-of-removed, reply-of-found}
 use Rattle.outcome.proofs.Refusals.{Stored, never-three, opening-room}
 use Rattle.sittings.proofs.State.{State}
 use Rattle.sittings.proofs.Table.{table, link-node, inner-node}
@@ -38,8 +41,8 @@ number-of : (n : ℕ) (call : Call) (b : Word) (l : Lent) → Stored call → un
 unfolding unlessRefused refusedOutcome refusedWith acceptedOutcome changed accepted
 number-of (suc n) call b l h = refl
 number-of zero (opening k) b l h = refl
-number-of zero (add e c) b l h = refl
-number-of zero (remove e) b l h = refl
+number-of zero (add e c) b l h = ap (λ (r : Reply). r .number) (reply-of-added (bringsIn e c b) (rowAfterAddition e c b))
+number-of zero (remove e) b l h = ap (λ (r : Reply). r .number) (reply-of-removed (takesOut e b) (letterAt e (lettersIn b)) (rowOf b (spelt (longestBefore e b))))
 number-of zero askLength b l h = refl
 number-of zero askCount b l h = refl
 number-of zero askLongest b l h = refl
@@ -47,7 +50,7 @@ number-of zero (askLongestAt e) b l h = refl
 number-of zero (askLetter i) b l h = refl
 number-of zero (askRow r) b l h = refl
 number-of zero (spell r) b l h = refl
-number-of zero (find p) b l h = refl
+number-of zero (find p) b l h = ap (λ (r : Reply). r .number) (reply-of-found (member p (palindromes (ruleOf b) (lettersIn b))) (rowOf b (spelt p)))
 number-of zero (list name) b l h = refl
 number-of zero (fasta text) b l h = absurd h
 

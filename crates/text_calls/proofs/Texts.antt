@@ -1,7 +1,7 @@
 -- What the questions over text promise, on plain values. Rests on `Refusals` and `Promises` of the outcomes.
-use Prim.Native.Nat.{ℕ, zero, suc, _*_, _≤_, _<_}
-use mathlib.Core.Path.{_≡_, refl, sym, ap, ap₂, _∙_}
-use mathlib.Core.Bool.{Bool, true, false, cond}
+use Prim.Native.Nat.{ℕ, _*_, _≤_, _<_}
+use mathlib.Core.Path.{_≡_, refl, sym, ap, ap₂, _∙_, subst}
+use mathlib.Core.Bool.{Bool, true, false}
 use mathlib.Core.List.{[], _∷_}
 use native.Mathlib.Omega.{arith}
 use lib.Dec.{leb}
@@ -16,13 +16,13 @@ use Rattle.palindromes.specs.Refusal.{spell, find, list, refusal}
 use Rattle.palindromes.proofs.Words.{no-letters}
 use Rattle.bed.proofs.Listing.{listing-most}
 use Rattle.eertree.proofs.Rows.{reachOf, row-reach-most}
-use Rattle.store.specs.Layout.{sizeIn, usedIn, lettersIn}
+use Rattle.store.specs.Layout.{usedIn, lettersIn}
 use Rattle.store.specs.Good.{ruleOf, nodeIn, Good}
 use Rattle.updates.specs.Rows.{rowOf}
 use Rattle.updates.proofs.Rows.{letters-length, row-of-small, covers}
-use Rattle.questions.specs.declared.find.Found.the-variants.{At, Absent}
-use Rattle.questions.specs.Find.{foundOf}
+use Rattle.outcome.specs.declared.answers.Found.{Found}
 use Rattle.outcome.specs.Reply.{packed, accepted}
+use Rattle.outcome.specs.Answers.{foundOf, foundReply}
 use Rattle.outcome.specs.Outcome.{viewIn, acceptedOutcome, changed, written}
 use Rattle.outcome.specs.Promise.{nothing, Promise}
 use Rattle.outcome.specs.Verdict.{Verdict, judged}
@@ -116,26 +116,20 @@ findable p b n v z =
     text s k true x = x
     text s k false x = absurd (omega (arith, find-letters b nothing p (λ e. omega (arith, ap length e)) x))
 
--- what an answer tells of the definition behind it
-pub told-at : (t : Bool) (f row : ℕ) → At row ≡ foundOf t f → (t ≡ true) × (row ≡ f)
-told-at true f row e = (refl, cc)
-told-at false f row e = absurd (let z : _≡_ {A = ℕ} 0 1 = cc in omega arith)
+-- the row of what a search answers fits its two bytes
+pub found-fits : (p b : Word) (a : Found) → Findable p b → a ≡ foundOf (member p (palindromes (ruleOf b) (lettersIn b))) (rowOf b (spelt p)) → foundReply a .row < 65536
+unfolding foundReply accepted
+found-fits p b a h q = subst (λ (x : Found). foundReply x .row < 65536) (sym q) (go (member p (palindromes (ruleOf b) (lettersIn b))))
+  where
+    go : (t : Bool) → foundReply (foundOf t (rowOf b (spelt p))) .row < 65536
+    go true = row-of-small (h .good) (spelt p)
+    go false = omega arith
 
-pub told-absent : (t : Bool) (f : ℕ) → Absent ≡ foundOf t f → t ≡ false
-told-absent true f e = absurd (let z : _≡_ {A = ℕ} 0 1 = cc in omega arith)
-told-absent false f e = refl
-
-pub row-packs : (p b : Word) (row : ℕ) → Findable p b → At row ≡ foundOf (member p (palindromes (ruleOf b) (lettersIn b))) (rowOf b (spelt p)) → (row < 65536) × (0 < 65536) × (0 < 65536)
-row-packs p b row a h =
-    let t = told-at (member p (palindromes (ruleOf b) (lettersIn b))) (rowOf b (spelt p)) row h in
-    (omega (arith, row-of-small (a .good) (spelt p), t .1), omega arith, omega arith)
-
-pub found : (p b : Word) (t : Bool) {x : ℕ} → Findable p b → member p (palindromes (ruleOf b) (lettersIn b)) ≡ t → x ≡ packed (accepted t (cond t (rowOf b (spelt p)) 0) 0 0)
+pub found : (p b : Word) (a : Found) {x : ℕ} → Findable p b → a ≡ foundOf (member p (palindromes (ruleOf b) (lettersIn b))) (rowOf b (spelt p)) → x ≡ packed (foundReply a)
     → Promise (find p) b nothing x b nothing
 unfolding acceptedOutcome changed
-found p b t a h e =
-    carried (find p) b nothing (a .good) (a .clear)
-    (record { reply = e ∙ ap (λ (y : Bool). packed (accepted y (cond y (rowOf b (spelt p)) 0) 0 0)) (sym h); store = refl; lent = refl })
+found p b a h q e =
+    carried (find p) b nothing (h .good) (h .clear) (record { reply = e ∙ ap (λ (x : Found). packed (foundReply x)) q; store = refl; lent = refl })
 
 -- ---- listing
 

@@ -10,10 +10,10 @@ ghost use Rattle.outcome.specs.Verdict.{Verdict};
 ghost use Rattle.text_calls.specs.Lending.{lending};
 use audit::fixed;
 use bed::is_identifier;
+use outcome::answers::Found;
 use outcome::pack;
 use outcome::refuse;
 use questions::find;
-use questions::find::Found;
 use questions::list;
 use questions::record;
 use questions::rows;
@@ -84,11 +84,10 @@ pub fn find_piece(store: &[u8], piece: &[u8]) -> u64
     if number != 0 {
         return refuse(number);
     }
-    let found = find::find(store, piece);
-    match found {
-        Found::At(row) => pack(true, row, 0, 0),
-        Found::Absent => pack(false, 0, 0, 0),
-    }
+    let Found::At(row) = find::find(store, piece) else {
+        return pack(false, 0, 0, 0);
+    };
+    pack(true, row, 0, 0)
 }
 
 // The refusal number of listing, 0 where the list can be written.

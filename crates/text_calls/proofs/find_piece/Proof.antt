@@ -1,11 +1,13 @@
 -- `text_calls::find_piece` keeps its promise. Assumes nothing.
-use Prim.Native.Nat.{ℕ}
-use mathlib.Core.Path.{sym, ap, _∙_}
-use mathlib.Core.Bool.{true, false}
+use Prim.Native.Nat.{_<_}
+use mathlib.Core.Path.{sym, ap, _∙_, subst}
+use native.Mathlib.Omega.{arith}
 use borrow.Author.Needs.{needs}
+use Rattle.outcome.specs.declared.answers.Found.{Found}
 use Rattle.outcome.specs.Reply.{packed, accepted}
+use Rattle.outcome.specs.Answers.{foundReply}
 use Rattle.outcome.proofs.Promises.{by-verdict}
-use Rattle.text_calls.proofs.Texts.{findable, told-at, told-absent, row-packs, found}
+use Rattle.text_calls.proofs.Texts.{findable, found-fits, found}
 use Rattle.text_calls.proofs.find_piece.Statement.{statement}
 use Rattle.text_calls.proofs.find_piece.Tie as tie
 
@@ -15,26 +17,28 @@ returns c = by-verdict _ _ _ _ (c .before .before .judge-find .ensures) (c .befo
 find-requires : tie.Need-find-requires
 find-requires c κs = let a = findable _ _ _ (c .before .judge-find .ensures) (c .if1 .left) in (a .good, (a .some, a .letters))
 
-pack-requires : tie.Need-pack-requires
-pack-requires c κs =
-    let called = c .before .before .before in
-    let a = findable _ _ _ (called .before .before .judge-find .ensures) (called .before .if1 .left) in
-    row-packs _ _ _ a (sym (c .before .found .given .1) ∙ called .find .ensures)
-
 returns-2 : tie.Need-returns-2
+unfolding foundReply
 returns-2 c =
-    let called = c .before .before .before .before in
-    let a = findable _ _ _ (called .before .before .judge-find .ensures) (called .before .if1 .left) in
-    let t = told-at _ _ _ (sym (c .before .before .found .given .1) ∙ called .find .ensures) in
-    found _ _ true a (t .0) (c .pack .ensures ∙ ap (λ (x : ℕ). packed (accepted true x 0 0)) (t .1))
+    let called = c .before .before .before in
+    found _ _ _ (findable _ _ _ (called .before .before .judge-find .ensures) (called .before .if1 .left)) (called .find .ensures)
+    (c .pack .ensures ∙ ap (λ (a : Found). packed (foundReply a)) (sym (c .before .enum-told .given .1)))
+
+pack-requires-2 : tie.Need-pack-requires-2
+unfolding foundReply accepted
+pack-requires-2 c κs =
+    let called = c .before .before .before in
+    let small = found-fits _ _ _ (findable _ _ _ (called .before .before .judge-find .ensures) (called .before .if1 .left)) (called .find .ensures) in
+    (subst (λ (a : Found). foundReply a .row < 65536) (c .before .row .given .1) small, omega arith, omega arith)
 
 returns-3 : tie.Need-returns-3
+unfolding foundReply
 returns-3 c =
-    let called = c .before .before .before in
-    let a = findable _ _ _ (called .before .before .judge-find .ensures) (called .before .if1 .left) in
-    found _ _ false a (told-absent _ _ (sym (c .before .enum-told .given .1) ∙ called .find .ensures)) (c .pack2 .ensures)
+    let called = c .before .before .before .before in
+    found _ _ _ (findable _ _ _ (called .before .before .judge-find .ensures) (called .before .if1 .left)) (called .find .ensures)
+    (c .pack2 .ensures ∙ ap (λ (a : Found). packed (foundReply a)) (sym (c .before .before .row .given .1)))
 
 pub find-piece-spec : {M : Type 1} → statement M
 find-piece-spec =
     tie.close
-    (tie.spec (λ c κs. search needs) (λ c κs. search needs) returns find-requires (λ c. search needs) pack-requires (λ c. search needs) (λ c κs. search needs) returns-2 returns-3)
+    (tie.spec (λ c κs. search needs) (λ c κs. search needs) returns find-requires (λ c. search needs) (λ c. search needs) (λ c κs. search needs) returns-2 pack-requires-2 returns-3)

@@ -2,7 +2,7 @@
 use mathlib.Core.Path.{ap, subst}
 use borrow.Author.Needs.{needs}
 use Rattle.store.specs.Side.{endOf}
-use Rattle.changes.specs.declared.addition.Added.the-variants.{New}
+use Rattle.outcome.specs.declared.answers.Added.the-variants.{New}
 use Rattle.changes.specs.declared.addition.Growth.{Growth}
 use Rattle.changes.specs.declared.addition.Growth.the-variants.{Fresh, Stood}
 use Rattle.changes.specs.Steps.{Grown}

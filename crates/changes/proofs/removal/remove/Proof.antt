@@ -2,7 +2,7 @@
 use mathlib.Core.Path.{ap, _∙_}
 use mathlib.Core.Bool.{not}
 use borrow.Author.Needs.{needs}
-use Rattle.changes.specs.declared.removal.Removed.the-variants.{Kept}
+use Rattle.outcome.specs.declared.answers.Removed.the-variants.{Kept}
 use Rattle.changes.proofs.removal.remove.Statement.{statement}
 use Rattle.changes.proofs.removal.remove.Tie as tie
 

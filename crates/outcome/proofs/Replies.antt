@@ -1,0 +1,21 @@
+-- The replies of an addition, a removal and a search, by whether a repeat came, went or stands. Assumes nothing.
+use Prim.Native.Nat.{ℕ}
+use mathlib.Core.Path.{_≡_, refl}
+use mathlib.Core.Bool.{Bool, true, false, cond}
+use Rattle.outcome.specs.Reply.{accepted}
+use Rattle.outcome.specs.Answers.{addedOf, addedReply, removedOf, removedReply, foundOf, foundReply}
+
+pub reply-of-added : (new : Bool) (row : ℕ) → addedReply (addedOf new row) ≡ accepted new (cond new row 0) 0 0
+unfolding addedReply
+reply-of-added true row = refl
+reply-of-added false row = refl
+
+pub reply-of-removed : (gone : Bool) (letter row : ℕ) → removedReply (removedOf gone letter row) ≡ accepted gone (cond gone row 0) letter 0
+unfolding removedReply
+reply-of-removed true letter row = refl
+reply-of-removed false letter row = refl
+
+pub reply-of-found : (stands : Bool) (row : ℕ) → foundReply (foundOf stands row) ≡ accepted stands (cond stands row 0) 0 0
+unfolding foundReply
+reply-of-found true row = refl
+reply-of-found false row = refl

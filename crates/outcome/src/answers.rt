@@ -1,0 +1,48 @@
+// What an addition, a removal and a search answer, a case for each that document 01 names, and the
+// packing of the first two.
+use super::pack;
+use store::cells::wide;
+ghost use mathlib.Core.Path.{_≡_};
+ghost use Prim.Native.Nat.{_<_};
+ghost use Rattle.outcome.specs.Reply.{packed};
+ghost use Rattle.outcome.specs.Answers.{addedReply, removedReply};
+
+// What an addition answers: the row of the palindrome that came in, or that none did.
+pub enum Added {
+    New(usize),
+    Known,
+}
+
+// What a removal answers: the letter, and the row of the palindrome that went, if one did.
+pub enum Removed {
+    Gone(u8, usize),
+    Kept(u8),
+}
+
+// What a search answers: the row of a palindrome of the record, or that the piece is none.
+pub enum Found {
+    At(usize),
+    Absent,
+}
+
+// The answer of an addition.
+pub fn answer_added(added: Added) -> u64
+    requires { ⌜ addedReply added .row < 65536 ⌝ }
+    ensures { λ r. ⌜ r ≡ packed (addedReply added) ⌝ }
+{
+    match added {
+        Added::New(row) => pack(true, row, 0, 0),
+        Added::Known => pack(false, 0, 0, 0),
+    }
+}
+
+// The answer of a removal.
+pub fn answer_removed(removed: Removed) -> u64
+    requires { ⌜ removedReply removed .row < 65536 ⌝ }
+    ensures { λ r. ⌜ r ≡ packed (removedReply removed) ⌝ }
+{
+    match removed {
+        Removed::Gone(letter, row) => pack(true, row, wide(letter), 0),
+        Removed::Kept(letter) => pack(false, 0, wide(letter), 0),
+    }
+}
