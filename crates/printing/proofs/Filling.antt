@@ -24,7 +24,7 @@ use Rattle.walk.proofs.Towards.{letter-of}
 use Rattle.printing.specs.Filled.{Filled}
 
 -- a record that was just opened holds no letter
-pub filled-none : (b : Word) → length b ≡ 49408 → Filled (opened 1024 b) []
+pub filled-none : (b : Word) → 49408 ≤ length b → Filled (opened 1024 b) []
 unfolding storeSize
 filled-none b l =
     record {

@@ -14,7 +14,7 @@ use fasta::Reading;
 use record::list_letters;
 use refusal::put_refusal;
 
-mod record;
+pub mod record;
 mod refusal;
 
 // Lists the first m letters of the buffer under the identifier of n bytes that the text begins with.

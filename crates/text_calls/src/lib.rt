@@ -47,7 +47,7 @@ pub fn spell_row(store: &[u8], row: u64, out: &mut [u8]) -> u64
 }
 
 // Whether every byte of a piece is a letter.
-fn all_letters(piece: &[u8]) -> bool
+pub fn all_letters(piece: &[u8]) -> bool
     ensures { λ r. ⌜ r ≡ allLetters (now (piece .entry)) ⌝ }
 {
     let mut i = 0;

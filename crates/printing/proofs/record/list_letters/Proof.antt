@@ -1,7 +1,7 @@
 -- `printing::record::list_letters` opens a store, fills it, and lists what it holds. Assumes nothing.
 use native.Mathlib.Omega.{arith}
 use borrow.Author.Needs.{needs}
-use mathlib.Core.Path.{sym, ap, _∙_}
+use mathlib.Core.Path.{ap, _∙_}
 use lib.ListN.{length}
 use lib.Seq.{sets}
 use Rattle.palindromes.specs.Word.{Word}
@@ -18,7 +18,7 @@ fill-requires : tie.Need-fill-requires
 fill-requires c κs =
     let s = c .before .before .before .before .before .before .before .before in
     let b = c .before .before .before .before .blank in
-    (rw (c .before .before .«open» .ensures) (filled-none (b .result) (sym (b .ensures))), s .pre .1 .0)
+    (rw (c .before .before .«open» .ensures) (filled-none (b .result) (omega (arith, b .ensures))), s .pre .1 .0)
 
 list-requires : tie.Need-list-requires
 list-requires c κs =

@@ -1,0 +1,2 @@
+-- what filling promises
+pub mod Filling
