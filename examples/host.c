@@ -1,4 +1,5 @@
-/* A sitting in C: two teams build ACGAAG from both ends, ask for its mirror repeats, and take a letter away again. */
+/* A sitting in C: two teams build ACGAAG from both ends, ask for its mirror repeats, and take a letter away again. Then a
+ * record is read from a FASTA text. */
 #include "mirror.h"
 #include <stdio.h>
 #include <string.h>
@@ -9,6 +10,18 @@ static uint64_t must(uint64_t answer)
 {
     if (mirror_refusal(answer) != 0) printf("refused: %u\n", mirror_refusal(answer));
     return answer;
+}
+
+/* Opens the record afresh, adds the letters of a FASTA text at the right and prints its list. */
+static void read_fasta(const char *fasta)
+{
+    uint8_t letters[64], scratch[4 * 64], text[2048];
+    uint64_t answer = must(mirror_fasta((const uint8_t *)fasta, strlen(fasta), letters, sizeof letters));
+
+    must(mirror_open(store, sizeof store, 64));
+    for (size_t i = 0; i < mirror_second(answer); i++) must(mirror_add_right(store, sizeof store, letters[i]));
+    unsigned n = mirror_first(must(mirror_list(store, sizeof store, (const uint8_t *)fasta + 1, mirror_first(answer), scratch, sizeof scratch, text, sizeof text)));
+    fwrite(text, 1, n, stdout);
 }
 
 int main(void)
@@ -36,5 +49,6 @@ int main(void)
     answer = must(mirror_remove_right(store, sizeof store));
     printf("removed %c, row %u %s\n", mirror_first(answer), mirror_row_of(answer), mirror_flag(answer) ? "went" : "stays");
     printf("GAAG is %s\n", mirror_flag(must(mirror_find(store, sizeof store, (const uint8_t *)"GAAG", 4))) ? "found" : "absent");
+    read_fasta(">e2 from a file\nACCA\nCG\n");
     return 0;
 }

@@ -24,12 +24,13 @@ enum {
     MIRROR_STORE_SHORT = 2, /* opening: store too short */
     MIRROR_DAMAGED = 3,     /* store not good, or too short for its capacity */
     MIRROR_NO_LETTER = 4,   /* not A, C, G, T */
-    MIRROR_FULL = 5,        /* record full */
+    MIRROR_FULL = 5,        /* record full; FASTA: over 1,024 letters */
     MIRROR_EMPTY = 6,       /* record empty */
     MIRROR_NO_PLACE = 7,    /* place not in record; row free or over capacity + 1 */
     MIRROR_NO_PIECE = 8,    /* piece empty */
     MIRROR_NO_ROOM = 9,     /* buffer shorter than needed */
-    MIRROR_IDENTIFIER = 10  /* identifier not 1 to 32 letters, digits or underscores */
+    MIRROR_IDENTIFIER = 10, /* identifier not 1 to 32 letters, digits or underscores; FASTA: first line not right */
+    MIRROR_SECOND_HEADER = 11 /* FASTA: a later line begins with `>` */
 };
 
 uint64_t mirror_open(uint8_t *store, size_t length, uint64_t capacity);
@@ -48,6 +49,9 @@ uint64_t mirror_spell(const uint8_t *store, size_t length, uint64_t row, uint8_t
 uint64_t mirror_find(const uint8_t *store, size_t length, const uint8_t *piece, size_t piece_length);
 uint64_t mirror_list(const uint8_t *store, size_t length, const uint8_t *identifier, size_t identifier_length,
                      uint8_t *scratch, size_t scratch_length, uint8_t *out, size_t out_length);
+/* Reads a FASTA text of any length; needs no store. The identifier stands behind the first `>`, and its length is the
+ * first number; the letters go to the front of `out`, and how many is the second. 1,024 bytes are always room enough. */
+uint64_t mirror_fasta(const uint8_t *text, size_t length, uint8_t *out, size_t out_length);
 
 static inline unsigned mirror_refusal(uint64_t answer) { return (unsigned)(answer & 0xff); }
 static inline unsigned mirror_flag(uint64_t answer) { return (unsigned)(answer >> 8 & 0xff); }
