@@ -1,3 +1,2 @@
 -- what the calls that change a record promise, on plain values
-pub mod Decided
 pub mod Changing

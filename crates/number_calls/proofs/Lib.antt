@@ -1,3 +1,2 @@
 -- what the questions that answer numbers promise, on plain values
-pub mod Decided
 pub mod Asking

@@ -1,3 +1,2 @@
 -- what the questions over text promise, on plain values
-pub mod Decided
 pub mod Texts

@@ -1,5 +1,4 @@
 -- `change_calls::is_letter` is the definition's test of a letter. Assumes nothing.
-use mathlib.Core.Path.{refl}
 use borrow.Author.Tests.{eq-eqb, ne-eqb}
 use Rattle.palindromes.specs.Word.{isLetter}
 use Rattle.change_calls.proofs.is_letter.Statement.{statement}

@@ -3,43 +3,42 @@ use mathlib.Core.Path.{refl, sym, _∙_}
 use borrow.Author.Needs.{needs}
 use borrow.Author.Tests.{not-true, not-false}
 use native.Mathlib.Omega.{arith}
-use Rattle.store.specs.Side.{endOf}
 use Rattle.walk.proofs.Stores.{header-fits}
 use Rattle.outcome.specs.Verdict.{damaged}
-use Rattle.change_calls.proofs.Decided.{passed, failed}
+use Rattle.audit.proofs.Decided.{holds, fails}
 use Rattle.change_calls.proofs.Changing.{not-letter, is-full, can-add}
 use Rattle.change_calls.proofs.judge_add.Statement.{statement}
 use Rattle.change_calls.proofs.judge_add.Tie as tie
 
 returns : tie.Need-returns
-returns c = damaged (failed (c .before .is-good .result) (c .before .is-good .ensures) (not-true _ (c .if1 .taken))) refl
+returns c = damaged (fails _ (c .before .is-good .result) (c .before .is-good .ensures) (c .if1 .taken)) refl
 
 returns-2 : tie.Need-returns-2
 returns-2 c =
     let g = c .before .before .before .is-good in
-    not-letter _ _ _ (passed (g .result) (g .ensures) (not-false _ (c .before .before .if1 .left))) (sym (c .before .is-letter .ensures) ∙ not-true _ (c .if2 .taken))
+    not-letter _ _ _ (holds _ (g .result) (g .ensures) (c .before .before .if1 .left)) (sym (c .before .is-letter .ensures) ∙ not-true _ (c .if2 .taken))
 
 capacity-requires : tie.Need-capacity-requires
 capacity-requires c κs =
     let g = c .before .before .before .is-good in
-    header-fits (passed (g .result) (g .ensures) (not-false _ (c .before .before .if1 .left)) .sized)
+    header-fits (holds _ (g .result) (g .ensures) (c .before .before .if1 .left) .sized)
 
 size-requires : tie.Need-size-requires
 size-requires c κs =
     let g = c .before .before .before .before .is-good in
-    header-fits (passed (g .result) (g .ensures) (not-false _ (c .before .before .before .if1 .left)) .sized)
+    header-fits (holds _ (g .result) (g .ensures) (c .before .before .before .if1 .left) .sized)
 
 returns-3 : tie.Need-returns-3
 returns-3 c =
     let g = c .before .before .before .before .before .before .is-good in
-    is-full _ _ _ (passed (g .result) (g .ensures) (not-false _ (c .before .before .before .before .before .if1 .left)))
+    is-full _ _ _ (holds _ (g .result) (g .ensures) (c .before .before .before .before .before .if1 .left))
     (sym (c .before .before .before .before .is-letter .ensures) ∙ not-false _ (c .before .before .before .if2 .left))
     (omega (arith, c .before .size .ensures .0, c .before .before .capacity .ensures .0))
 
 returns-4 : tie.Need-returns-4
 returns-4 c =
     let g = c .before .before .before .before .before .before .is-good in
-    can-add _ _ _ (passed (g .result) (g .ensures) (not-false _ (c .before .before .before .before .before .if1 .left)))
+    can-add _ _ _ (holds _ (g .result) (g .ensures) (c .before .before .before .before .before .if1 .left))
     (sym (c .before .before .before .before .is-letter .ensures) ∙ not-false _ (c .before .before .before .if2 .left))
     (omega (arith, c .before .size .ensures .0, c .before .before .capacity .ensures .0))
 

@@ -1,32 +1,30 @@
 -- `change_calls::judge_remove` is the verdict on a removal. Assumes nothing.
 use mathlib.Core.Path.{refl, sym, _∙_}
 use borrow.Author.Needs.{needs}
-use borrow.Author.Tests.{not-true, not-false}
-use native.Mathlib.Omega.{arith}
 use Rattle.walk.proofs.Stores.{header-fits}
 use Rattle.outcome.specs.Verdict.{damaged}
-use Rattle.change_calls.proofs.Decided.{passed, failed}
+use Rattle.audit.proofs.Decided.{holds, fails}
 use Rattle.change_calls.proofs.Changing.{no-letter, can-remove}
 use Rattle.change_calls.proofs.judge_remove.Statement.{statement}
 use Rattle.change_calls.proofs.judge_remove.Tie as tie
 
 returns : tie.Need-returns
-returns c = damaged (failed (c .before .is-good .result) (c .before .is-good .ensures) (not-true _ (c .if1 .taken))) refl
+returns c = damaged (fails _ (c .before .is-good .result) (c .before .is-good .ensures) (c .if1 .taken)) refl
 
 size-requires : tie.Need-size-requires
 size-requires c κs =
     let g = c .before .is-good in
-    header-fits (passed (g .result) (g .ensures) (not-false _ (c .if1 .left)) .sized)
+    header-fits (holds _ (g .result) (g .ensures) (c .if1 .left) .sized)
 
 returns-2 : tie.Need-returns-2
 returns-2 c =
     let g = c .before .before .before .is-good in
-    no-letter _ _ (passed (g .result) (g .ensures) (not-false _ (c .before .before .if1 .left))) (sym (c .before .size .ensures .0) ∙ c .if2 .taken)
+    no-letter _ _ (holds _ (g .result) (g .ensures) (c .before .before .if1 .left)) (sym (c .before .size .ensures .0) ∙ c .if2 .taken)
 
 returns-3 : tie.Need-returns-3
 returns-3 c =
     let g = c .before .before .before .is-good in
-    can-remove _ _ (passed (g .result) (g .ensures) (not-false _ (c .before .before .if1 .left))) (λ e. c .if2 .left (c .before .size .ensures .0 ∙ e))
+    can-remove _ _ (holds _ (g .result) (g .ensures) (c .before .before .if1 .left)) (λ e. c .if2 .left (c .before .size .ensures .0 ∙ e))
 
 pub judge-remove-spec : {M : Type 1} → statement M
 judge-remove-spec = tie.close (tie.spec (λ c κs. search needs) returns size-requires returns-2 returns-3)

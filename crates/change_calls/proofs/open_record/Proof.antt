@@ -1,7 +1,5 @@
 -- `change_calls::open_record` keeps the promise of an opening. Assumes nothing.
-use mathlib.Core.Path.{refl, sym, _∙_}
 use borrow.Author.Needs.{needs}
-use native.Mathlib.Omega.{arith}
 use Rattle.change_calls.proofs.Changing.{too-small, too-large, too-short, room-for, opened-up}
 use Rattle.change_calls.proofs.open_record.Statement.{statement}
 use Rattle.change_calls.proofs.open_record.Tie as tie

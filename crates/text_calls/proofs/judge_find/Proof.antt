@@ -3,29 +3,29 @@ use mathlib.Core.Path.{refl, sym, _∙_}
 use borrow.Author.Needs.{needs}
 use borrow.Author.Tests.{not-true, not-false}
 use Rattle.outcome.specs.Verdict.{damaged}
-use Rattle.text_calls.proofs.Decided.{passed, failed}
+use Rattle.audit.proofs.Decided.{holds, fails}
 use Rattle.text_calls.proofs.Texts.{no-piece, no-text, can-find}
 use Rattle.text_calls.proofs.judge_find.Statement.{statement}
 use Rattle.text_calls.proofs.judge_find.Tie as tie
 
 returns : tie.Need-returns
-returns c = damaged (failed (c .before .is-good .result) (c .before .is-good .ensures) (not-true _ (c .if1 .taken))) refl
+returns c = damaged (fails _ (c .before .is-good .result) (c .before .is-good .ensures) (c .if1 .taken)) refl
 
 returns-2 : tie.Need-returns-2
 returns-2 c =
     let g = c .before .before .is-good in
-    no-piece _ (passed (g .result) (g .ensures) (not-false _ (c .before .if1 .left))) _ (c .if2 .taken)
+    no-piece _ (holds _ (g .result) (g .ensures) (c .before .if1 .left)) _ (c .if2 .taken)
 
 returns-3 : tie.Need-returns-3
 returns-3 c =
     let g = c .before .before .before .before .is-good in
-    no-text _ (passed (g .result) (g .ensures) (not-false _ (c .before .before .before .if1 .left))) _ (c .before .before .if2 .left)
+    no-text _ (holds _ (g .result) (g .ensures) (c .before .before .before .if1 .left)) _ (c .before .before .if2 .left)
     (sym (c .before .all-letters .ensures) ∙ not-true _ (c .if3 .taken))
 
 returns-4 : tie.Need-returns-4
 returns-4 c =
     let g = c .before .before .before .before .is-good in
-    can-find _ (passed (g .result) (g .ensures) (not-false _ (c .before .before .before .if1 .left))) _ (c .before .before .if2 .left)
+    can-find _ (holds _ (g .result) (g .ensures) (c .before .before .before .if1 .left)) _ (c .before .before .if2 .left)
     (sym (c .before .all-letters .ensures) ∙ not-false _ (c .if3 .left))
 
 pub judge-find-spec : {M : Type 1} → statement M

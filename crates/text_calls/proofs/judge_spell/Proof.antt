@@ -3,37 +3,37 @@ use mathlib.Core.Path.{refl, sym, _∙_}
 use borrow.Author.Needs.{needs}
 use borrow.Author.Tests.{not-true, not-false}
 use Rattle.outcome.specs.Verdict.{damaged}
-use Rattle.text_calls.proofs.Decided.{passed, failed}
+use Rattle.audit.proofs.Decided.{holds, fails}
 use Rattle.text_calls.proofs.Texts.{free-row, spelt-short, can-spell}
 use Rattle.text_calls.proofs.judge_spell.Statement.{statement}
 use Rattle.text_calls.proofs.judge_spell.Tie as tie
 
 returns : tie.Need-returns
-returns c = damaged (failed (c .before .is-good .result) (c .before .is-good .ensures) (not-true _ (c .if1 .taken))) refl
+returns c = damaged (fails _ (c .before .is-good .result) (c .before .is-good .ensures) (c .if1 .taken)) refl
 
 is-used-requires : tie.Need-is-used-requires
-is-used-requires c κs = let g = c .before .is-good in passed (g .result) (g .ensures) (not-false _ (c .if1 .left))
+is-used-requires c κs = let g = c .before .is-good in holds _ (g .result) (g .ensures) (c .if1 .left)
 
 returns-2 : tie.Need-returns-2
 returns-2 c =
     let g = c .before .before .before .is-good in
-    free-row _ (passed (g .result) (g .ensures) (not-false _ (c .before .before .if1 .left))) _ _ (sym (c .before .is-used .ensures) ∙ not-true _ (c .if2 .taken))
+    free-row _ (holds _ (g .result) (g .ensures) (c .before .before .if1 .left)) _ _ (sym (c .before .is-used .ensures) ∙ not-true _ (c .if2 .taken))
 
 spelling-length-requires : tie.Need-spelling-length-requires
 spelling-length-requires c κs =
     let g = c .before .before .before .is-good in
-    (passed (g .result) (g .ensures) (not-false _ (c .before .before .if1 .left)), sym (c .before .is-used .ensures) ∙ not-false _ (c .if2 .left))
+    (holds _ (g .result) (g .ensures) (c .before .before .if1 .left), sym (c .before .is-used .ensures) ∙ not-false _ (c .if2 .left))
 
 returns-3 : tie.Need-returns-3
 returns-3 c =
     let g = c .before .before .before .before .before .is-good in
-    spelt-short _ (passed (g .result) (g .ensures) (not-false _ (c .before .before .before .before .if1 .left))) _ _
+    spelt-short _ (holds _ (g .result) (g .ensures) (c .before .before .before .before .if1 .left)) _ _
     (sym (c .before .before .before .is-used .ensures) ∙ not-false _ (c .before .before .if2 .left)) (c .before .spelling-length .ensures) (c .if3 .taken)
 
 returns-4 : tie.Need-returns-4
 returns-4 c =
     let g = c .before .before .before .before .before .is-good in
-    can-spell _ (passed (g .result) (g .ensures) (not-false _ (c .before .before .before .before .if1 .left))) _ _
+    can-spell _ (holds _ (g .result) (g .ensures) (c .before .before .before .before .if1 .left)) _ _
     (sym (c .before .before .before .is-used .ensures) ∙ not-false _ (c .before .before .if2 .left)) (c .before .spelling-length .ensures) (c .if3 .left)
 
 pub judge-spell-spec : {M : Type 1} → statement M
