@@ -100,21 +100,19 @@ static void against_surfaces(void)
     row_of_ways("remove", take);
 }
 
-/* The untested fill of a record; how many ratios are above the limit. */
-static int untested_fill(void)
+/* One line of work on 1,000 letters that takes no store to test; how many ratios are above the limit. A library that
+ * left other bytes than the twin counts as above. */
+static int untested(const char *title, const char *name, struct pair (*time)(int word, size_t n, int samples))
 {
     int above = 0;
-    puts("\nFilling a record with 1,000 letters with no test between, in nanoseconds for each letter");
+    printf("\n%s\n", title);
     heading("");
-    printf("  %-24s", "fill");
+    printf("  %-24s", name);
     for (int w = 0; w < WORDS; w++) {
-        struct pair t = time_fill(w, 1000, SAMPLES);
+        struct pair t = time(w, 1000, SAMPLES);
         double ratio = t.library / t.twin;
         above += ratio > RATIO_LIMIT || ratio < 0;
-        if (t.library == 0)
-            printf("%6.1f  none ", t.twin);
-        else
-            printf("%6.1f %5.2f%s", t.library, ratio, mark(ratio));
+        printf("%6.1f %5.2f%s", t.library, ratio, mark(ratio));
     }
     puts("");
     return above;
@@ -163,7 +161,8 @@ int main(int count, char **arguments)
         above = tested_calls(sizes[i], test[i]);
     against_floor(test);
     against_surfaces();
-    above += untested_fill();
+    above += untested("Filling a record with 1,000 letters with no test between, in nanoseconds for each letter", "fill", time_fill);
+    above += untested("Reading a FASTA text of 1,000 letters in lines of 60, in microseconds", "fasta", time_fasta);
     growth(out);
     fclose(out);
     printf("\n%d ratios above %.1f at 1,000 letters\n", above, RATIO_LIMIT);

@@ -29,8 +29,10 @@ struct ways {
 };
 void time_changes(int word, size_t n, int samples, struct ways *add, struct ways *take);
 
-/* An untested fill of n letters; the library's is 0 where it exports none, -1 where it leaves other bytes. */
+/* An untested fill of n letters, and reading a FASTA text of n letters; the library's time is -1 where it leaves other
+ * bytes than the twin. */
 struct pair time_fill(int word, size_t n, int samples);
+struct pair time_fasta(int word, size_t n, int samples);
 
 /* Cost against n, for each word: one panel of the drawing of growth. */
 enum { POINTS = 8, POINT_STEP = 125 };

@@ -45,4 +45,7 @@ static inline uint64_t answer(bool flag, unsigned row, unsigned first, unsigned 
     return (uint64_t)flag << 8 | (uint64_t)row << 16 | (uint64_t)first << 32 | (uint64_t)second << 48;
 }
 
+/* Reading a FASTA text, which takes no store. */
+uint64_t twin_fasta(const uint8_t *text, size_t length, uint8_t *out, size_t out_length);
+
 #endif

@@ -1,0 +1,50 @@
+/* The clock on reading a FASTA text, in lines of 60 letters. */
+#include <string.h>
+
+#include "clock.h"
+#include "../include/mirror.h"
+#include "timing.h"
+#include "twin.h"
+#include "words.h"
+
+enum { LETTERS = 1024, LINE = 60 };
+
+static uint8_t text[2 * LETTERS], out[LETTERS], other[LETTERS];
+static volatile uint64_t sink;
+
+typedef uint64_t reader(const uint8_t *text, size_t length, uint8_t *out, size_t out_length);
+
+static size_t make_text(int word, size_t n)
+{
+    uint8_t letters[LETTERS];
+    size_t length = 4;
+    memcpy(text, ">e1\n", 4);
+    make_word(word, letters, n);
+    for (size_t i = 0; i < n; i++) {
+        text[length++] = letters[i];
+        if (i % LINE == LINE - 1 || i == n - 1)
+            text[length++] = '\n';
+    }
+    return length;
+}
+
+static int64_t sample(reader *run, uint8_t *into, size_t length)
+{
+    int64_t from = now_ns();
+    sink = run(text, length, into, LETTERS);
+    return now_ns() - from;
+}
+
+struct pair time_fasta(int word, size_t n, int samples)
+{
+    size_t length = make_text(word, n);
+    int64_t cost = clock_cost(), library = INT64_MAX, twin = INT64_MAX;
+    for (int i = 0; i < samples; i++) {
+        library = smaller(library, sample(mirror_fasta, out, length));
+        twin = smaller(twin, sample(twin_fasta, other, length));
+    }
+    bool same = mirror_fasta(text, length, out, LETTERS) == twin_fasta(text, length, other, LETTERS);
+    if (!same || memcmp(out, other, n) != 0)
+        return (struct pair){-1, 1};
+    return (struct pair){(double)(library - cost) / 1e3, (double)(twin - cost) / 1e3};
+}
