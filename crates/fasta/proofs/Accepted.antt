@@ -1,8 +1,8 @@
 -- What an accepted text says: its identifier is one and stands after the first byte, and its letters are letters, at most 1,024.
--- Rests on the definitions alone. Assumes nothing.
+-- Rests on the kinds of bytes (`LaterLines`). Assumes nothing.
 use Prim.Native.Nat.{ℕ, zero, suc, _+_, _≤_, _<_}
 use mathlib.Core.Path.{_≡_, refl, sym, ap, _∙_}
-use mathlib.Core.Bool.{Bool, true, false, cond, _&&_, true≢false}
+use mathlib.Core.Bool.{Bool, true, false, _&&_}
 use mathlib.Core.List.{[], _∷_}
 use native.Mathlib.Omega.{arith}
 use lib.Dec.{leb, eqb}
@@ -11,8 +11,10 @@ use lib.Seq.{length-take-le}
 use borrow.Author.Tests.{leb-true}
 use Rattle.palindromes.specs.Word.{Word, isLetter, allLetters}
 use Rattle.palindromes.specs.Bed.{isIdentifierByte, allIdentifierBytes, isIdentifier}
-use Rattle.palindromes.specs.Fasta.{Fasta, refused, accepted, identifierLength, startsWithLf, endsIdentifier, goodFirstLine, afterFirstLine, Kind, secondHeader, lineEnd, beforeLf, letter, other, kindOf, Body, fault, letters, withLetter, readByte, readLines, withIdentifier, readFasta}
+use Rattle.palindromes.specs.Fasta.{Fasta, refused, accepted, identifierLength, endsIdentifier, goodFirstLine, afterFirstLine, Kind, secondHeader, lineEnd, beforeLf, letter, other, kindOf, Body, fault, letters, withLetter, readByte, readLines, withIdentifier, readFasta}
 use Rattle.palindromes.proofs.Tests.{both-true}
+use Rattle.fasta.proofs.LaterLines.{letter-kind}
+use Rattle.fasta.proofs.Writing.{no-fault}
 
 -- ---- the identifier
 
@@ -38,23 +40,8 @@ identifier-clean (b ∷ t) = by-byte (identifier-clean t) (isIdentifierByte b) r
 
 -- ---- the letters
 
-no-fault : (n : ℕ) (w : Word) → fault n ≡ letters w → ⊥
-no-fault n w e = let z : _≡_ {A = ℕ} 0 1 = cc in omega arith
-
 same-letters : (u w : Word) → letters u ≡ letters w → u ≡ w
 same-letters u w e = cc
-
--- only a letter is of the kind of letters
-kind-is-letter : (p q r s : Bool) → cond p secondHeader (cond q lineEnd (cond r beforeLf (cond s letter other))) ≡ letter → s ≡ true
-kind-is-letter true q r s e = absurd (let z : _≡_ {A = ℕ} 0 1 = cc in omega arith)
-kind-is-letter false true r s e = absurd (let z : _≡_ {A = ℕ} 0 1 = cc in omega arith)
-kind-is-letter false false true s e = absurd (let z : _≡_ {A = ℕ} 0 1 = cc in omega arith)
-kind-is-letter false false false true e = refl
-kind-is-letter false false false false e = absurd (let z : _≡_ {A = ℕ} 0 1 = cc in omega arith)
-
-letter-kind : (start : Bool) (b : ℕ) (t : Word) → kindOf start b t ≡ letter → isLetter b ≡ true
-unfolding kindOf
-letter-kind start b t e = kind-is-letter (start && eqb b 62) (eqb b 10) (eqb b 13 && startsWithLf t) (isLetter b) e
 
 -- letters, at most as many as there was room for
 abbrev pub Within : ℕ → Word → Type 0

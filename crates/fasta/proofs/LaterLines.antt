@@ -1,8 +1,9 @@
 -- The definitions of the later lines, read at a place of the text: the kind of a byte by its tests, and what `readLines` makes of a byte of each kind.
 -- Both passes rest on it. Rests on `at-place`. Assumes nothing.
 use Prim.Native.Nat.{ℕ, suc, _+_, _≤_, _<_}
-use mathlib.Core.Path.{_≡_, _∙_}
-use mathlib.Core.Bool.{Bool, true, false, _&&_, and-false}
+use mathlib.Core.Path.{_≡_, refl, sym, ap, _∙_}
+use mathlib.Core.Bool.{Bool, true, false, cond, _&&_, and-false, true≢false}
+use native.Mathlib.Omega.{arith}
 use mathlib.Core.Logic.{_⊎_, inl, inr}
 use mathlib.Core.List.{[]}
 use lib.Dec.{eqb}
@@ -39,27 +40,30 @@ module _ (lineStart : Bool) (b : ℕ) (t : Word) where
   kind-lone-cr e p = rw (e, p, and-false lineStart)
 
   -- the four letters
-  pub kind-letter : (b ≡ 65) ⊎ ((b ≡ 67) ⊎ ((b ≡ 71) ⊎ (b ≡ 84))) → kindOf lineStart b t ≡ letter
+  pub kind-letter : isLetter b ≡ true → kindOf lineStart b t ≡ letter
   unfolding kindOf isLetter
-  kind-letter (inl e) = rw (e, and-false lineStart)
-  kind-letter (inr (inl e)) = rw (e, and-false lineStart)
-  kind-letter (inr (inr (inl e))) = rw (e, and-false lineStart)
-  kind-letter (inr (inr (inr e))) = rw (e, and-false lineStart)
+  kind-letter h = simp (h, not-both lineStart (eqb b 62) (inr (other-byte 62 refl)), other-byte 10 refl, other-byte 13 refl)
+    where
+      -- a byte that is no letter is another
+      other-byte : (x : ℕ) → isLetter x ≡ false → eqb b x ≡ false
+      other-byte x f = ne-eqb b x λ e. true≢false (sym h ∙ ap isLetter e ∙ f)
+
+  -- and no other byte
+  pub letter-kind : kindOf lineStart b t ≡ letter → isLetter b ≡ true
+  unfolding kindOf
+  letter-kind e = only (lineStart && eqb b 62) (eqb b 10) (eqb b 13 && startsWithLf t) (isLetter b) e
+    where
+      only : (p q r s : Bool) → cond p secondHeader (cond q lineEnd (cond r beforeLf (cond s letter other))) ≡ letter → s ≡ true
+      only true q r s e = absurd (let z : _≡_ {A = ℕ} 0 1 = cc in omega arith)
+      only false true r s e = absurd (let z : _≡_ {A = ℕ} 0 1 = cc in omega arith)
+      only false false true s e = absurd (let z : _≡_ {A = ℕ} 0 1 = cc in omega arith)
+      only false false false true e = refl
+      only false false false false e = absurd (let z : _≡_ {A = ℕ} 0 1 = cc in omega arith)
 
   -- what passes none of the tests is not a letter, a `>` inside a line among it
-  pub kind-other : (lineStart ≡ false) ⊎ (eqb b 62 ≡ false) → (b ≡ 10 → ⊥) → (b ≡ 13 → ⊥) → ((b ≡ 65) ⊎ ((b ≡ 67) ⊎ ((b ≡ 71) ⊎ (b ≡ 84))) → ⊥)
-      → kindOf lineStart b t ≡ other
-  unfolding kindOf isLetter
-  kind-other h lf cr no-letter =
-      simp (
-        not-both lineStart (eqb b 62) h,
-        ne-eqb b 10 lf,
-        ne-eqb b 13 cr,
-        ne-eqb b 65 (λ e. no-letter (inl e)),
-        ne-eqb b 67 (λ e. no-letter (inr (inl e))),
-        ne-eqb b 71 (λ e. no-letter (inr (inr (inl e)))),
-        ne-eqb b 84 (λ e. no-letter (inr (inr (inr e)))),
-      )
+  pub kind-other : (lineStart ≡ false) ⊎ (eqb b 62 ≡ false) → (b ≡ 10 → ⊥) → (b ≡ 13 → ⊥) → isLetter b ≡ false → kindOf lineStart b t ≡ other
+  unfolding kindOf
+  kind-other h lf cr l = simp (not-both lineStart (eqb b 62) h, ne-eqb b 10 lf, ne-eqb b 13 cr, l)
 
 -- the kind of the byte at a place
 abbrev pub kindAt : Word → ℕ → Bool → Kind

@@ -7,6 +7,7 @@ ghost use lib.Seq.{sets};
 ghost use Rattle.palindromes.specs.Fasta.{letters, kindOf, readLines};
 ghost use Rattle.fasta.specs.Passes.{kindNamed, tallyAfter, lettersOf};
 use crate::first_line::lf_at;
+use letters::is_letter;
 
 // What a byte of a later line is.
 pub enum ByteKind {
@@ -23,12 +24,15 @@ pub enum Tally {
     Fault(usize),
 }
 
-// What the byte at this place is.
+// What the byte at this place is. Most bytes are letters, so that test comes first.
 fn kind_at(text: &[u8], at: usize, line_start: bool) -> ByteKind
     requires { ⌜ at < length (now text) ⌝ }
     ensures { λ r. ⌜ kindNamed r ≡ kindOf «line_start» (getD (now (text .entry)) at 0) (drop (at + 1) (now (text .entry))) ⌝ }
 {
     let b = text[at];
+    if is_letter(b) {
+        return ByteKind::Letter;
+    }
     if line_start && b == b'>' {
         return ByteKind::SecondHeader;
     }
@@ -41,7 +45,6 @@ fn kind_at(text: &[u8], at: usize, line_start: bool) -> ByteKind
                 ByteKind::Other
             }
         }
-        b'A' | b'C' | b'G' | b'T' => ByteKind::Letter,
         _ => ByteKind::Other,
     }
 }
@@ -72,26 +75,19 @@ pub fn count_letters(text: &[u8], start: usize) -> Tally
     Tally::Letters(n)
 }
 
-// Writes the letters of lines that were found good, in which neither fault is met.
+// Writes the letters of lines that were found good: every other byte there belongs to a line's end.
 pub fn write_letters(text: &[u8], start: usize, out: &mut [u8])
     requires { ⌜ readLines (drop start (now text)) true 1024 ≡ letters (lettersOf (readLines (drop start (now text)) true 1024)) ⌝ }
     requires { ⌜ length (lettersOf (readLines (drop start (now text)) true 1024)) ≤ length (now out) ⌝ }
     ensures { λ _. ⌜ now (out .exit) ≡ sets (now (out .entry)) 0 (lettersOf (readLines (drop start (now (text .entry))) true 1024)) ⌝ }
 {
     let mut n = 0;
-    let mut line_start = true;
     let mut i = start;
     while i < text.len() {
-        match kind_at(text, i, line_start) {
-            ByteKind::SecondHeader => return,
-            ByteKind::Other => return,
-            ByteKind::LineEnd => line_start = true,
-            ByteKind::BeforeLf => {}
-            ByteKind::Letter => {
-                out[n] = text[i];
-                n += 1;
-                line_start = false;
-            }
+        let b = text[i];
+        if is_letter(b) {
+            out[n] = b;
+            n += 1;
         }
         i += 1;
     }

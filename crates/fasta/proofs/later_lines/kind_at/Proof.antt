@@ -9,38 +9,40 @@ use Rattle.fasta.proofs.later_lines.kind_at.Tie as tie
 
 returns : tie.Need-returns
 unfolding kindNamed
-returns c = sym (kind-header _ _ _ (c .before .if1 .taken) (c .if2 .taken))
+returns c = sym (kind-letter _ _ _ (sym (c .before .is-letter .ensures) ∙ c .if1 .taken))
 
 returns-2 : tie.Need-returns-2
 unfolding kindNamed
-returns-2 c = sym (kind-line-end _ _ _ (c .match .keys1))
+returns-2 c = sym (kind-header _ _ _ (c .before .if2 .taken) (c .if3 .taken))
 
 returns-3 : tie.Need-returns-3
 unfolding kindNamed
-returns-3 c = sym (kind-before-lf _ _ _ (c .before .before .match .keys2) (sym (c .before .lf-at .ensures) ∙ c .if3 .taken))
+returns-3 c = sym (kind-line-end _ _ _ (c .match .keys1))
 
 returns-4 : tie.Need-returns-4
 unfolding kindNamed
-returns-4 c = sym (kind-lone-cr _ _ _ (c .before .before .match .keys2) (sym (c .before .lf-at .ensures) ∙ c .if3 .left))
+returns-4 c = sym (kind-before-lf _ _ _ (c .before .before .match .keys2) (sym (c .before .lf-at .ensures) ∙ c .if4 .taken))
 
 returns-5 : tie.Need-returns-5
 unfolding kindNamed
-returns-5 c = sym (kind-letter _ _ _ (c .match .keys3))
+returns-5 c = sym (kind-lone-cr _ _ _ (c .before .before .match .keys2) (sym (c .before .lf-at .ensures) ∙ c .if4 .left))
 
 returns-6 : tie.Need-returns-6
 unfolding kindNamed
 returns-6 c =
-    sym (kind-other _ _ _ (⊎-elim (λ w. inr (w .1 .left)) (λ w. inl (w .left)) (c .before .if1 .came)) (c .match .rest .0 .0 .1) (c .match .rest .0 .1) (c .match .rest .1))
+    let plain = c .before .before in
+    sym (kind-other _ _ _ (⊎-elim (λ w. inr (w .1 .left)) (λ w. inl (w .left)) (c .before .if2 .came)) (c .match .rest .0 .1) (c .match .rest .1) (sym (plain .before .is-letter .ensures) ∙ plain .if1 .left))
 
 pub kind-at-spec : {M : Type 1} → statement M
 kind-at-spec =
     tie.close
     (tie.spec
     (λ c. search needs)
+    (λ c κs. search needs)
     returns
+    returns-2
     (λ c. search needs)
     (λ c κs. search needs)
-    returns-2
     returns-3
     returns-4
     returns-5
