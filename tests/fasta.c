@@ -3,6 +3,7 @@
  * Usage: fasta [seed [texts]] */
 #include "fasta_check.h"
 #include "fasta_texts.h"
+#include "mirror.h"
 #include <stdio.h>
 #include <stdlib.h>
 #include <string.h>
@@ -52,16 +53,42 @@ static void long_text(void)
     fasta_check(text, length);
 }
 
+/* an ignored rest of more than 65,536 bytes of any value, and a line that holds letters and perhaps one other byte */
+static void long_rest(void)
+{
+    size_t length = (size_t)sprintf((char *)text, ">rest%c", " \t"[fasta_next(2)]), end = 65000 + fasta_next(70000);
+    for (; length < end; length++) {
+        uint8_t byte = (uint8_t)fasta_next(256);
+        text[length] = byte == '\n' ? '\r' : byte;
+    }
+    text[length++] = '\n';
+    for (unsigned letters = fasta_next(30); letters > 0; letters--) text[length++] = (uint8_t)"ACGT"[fasta_next(4)];
+    if (fasta_next(2)) text[length++] = (uint8_t)fasta_next(256);
+    fasta_check(text, length);
+}
+
+/* an empty buffer may come with any pointer */
+static int empty_buffers(void)
+{
+    uint8_t *wild = (uint8_t *)(uintptr_t)1;
+    return mirror_fasta(NULL, 0, NULL, 0) == 10 && mirror_fasta(wild, 0, wild, 0) == 10
+        && mirror_fasta((const uint8_t *)">e1\n", 4, NULL, 0) == 2ull << 32
+        && mirror_fasta((const uint8_t *)">e1\n", 4, wild, 0) == 2ull << 32
+        && mirror_fasta((const uint8_t *)">e1\nA", 5, wild, 0) == 9;
+}
+
 int main(int argc, char **argv)
 {
     unsigned long texts = argc > 2 ? strtoul(argv[2], NULL, 10) : 200000;
     fasta_seed(argc > 1 ? strtoull(argv[1], NULL, 10) : 20251115);
+    if (!empty_buffers()) return puts("an empty buffer with a wild pointer"), 1;
     for (size_t i = 0; i < fasta_keys_count; i++) fasta_check_key(&fasta_keys[i]);
     every_short("", ">A \r\n", 7);
     every_short(">e\n", ">AN\r\n", 6);
     for (unsigned long i = 0; i < texts; i++) with_slips();
     for (unsigned long i = 0; i < texts / 10; i++) any_bytes();
     for (unsigned long i = 0; i < texts / 5000; i++) long_text();
+    for (unsigned long i = 0; i < texts / 2000; i++) long_rest();
     printf("%zu keys, %lu calls agree with the second reader:", fasta_keys_count, fasta_calls);
     for (unsigned i = 0; i < 256; i++)
         if (fasta_seen[i]) printf(" %lu of %u", fasta_seen[i], i);
