@@ -21,9 +21,20 @@ fn lines_buffer() -> [u8; 46080]
     [0; 46080]
 }
 
+// Whether standard input cannot be read, asked when no byte came: reading once more at the end of an
+// input tells nothing new, and fails again where it failed.
+fn unreadable() -> bool {
+    let mut one = [0u8; 1];
+    libc::read(STDIN_FILENO, &mut one) < 0
+}
+
 fn main() {
     let mut text = text_buffer();
     let n = io::read_full(STDIN_FILENO, &mut text);
+    if n == 0 && unreadable() {
+        os::fail(b"mirrorlist: standard input");
+        return;
+    }
     let mut out = lines_buffer();
     let m = printing::print(&text[..n], &mut out);
     if !io::write_all(STDOUT_FILENO, &out[..m]) {
