@@ -13,7 +13,7 @@ use Rattle.palindromes.specs.Record.{palindromes}
 use Rattle.palindromes.specs.End.{atLeft, atRight, longestAt}
 use Rattle.palindromes.specs.Node.{Node, imaginary, spelt, around}
 use Rattle.palindromes.proofs.Tests.{false-not-true, decided}
-use Rattle.eertree.proofs.Covers.{NodeOf}
+use Rattle.eertree.specs.Covers.{NodeOf}
 use Rattle.eertree.proofs.Rows.{imaginary-row}
 use Rattle.store.specs.Layout.{capacityIn, countIn, endRow, edgeIn, rankIn, usedIn, lettersIn}
 use Rattle.store.specs.Good.{ruleOf, nodeIn, Good}

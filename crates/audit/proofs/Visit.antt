@@ -29,21 +29,23 @@ use Rattle.palindromes.proofs.Growth.{link-of-letter, link-of-framed, link-stoo
 use Rattle.palindromes.proofs.Places.{stands-true, stands-is}
 use Rattle.palindromes.proofs.Palindromes.{count-empty, count-snoc, count-length}
 use Rattle.palindromes.proofs.Across.{whole-at, whole-test}
-use Rattle.eertree.proofs.Covers.{NodeOf, Covers, around-not-empty, stands-empty}
+use Rattle.eertree.specs.Covers.{NodeOf, Covers, withUsed}
+use Rattle.eertree.proofs.Covers.{around-not-empty, stands-empty}
 use Rattle.eertree.proofs.Rows.{reachOf, reach-length, imaginary-row, row-high}
-use Rattle.eertree.proofs.Nodes.{node-from-step, node-from}
-use Rattle.eertree.proofs.Replay.{withUsed, Fits, step-there, read-none, read-old, read-fresh, read-new}
+use Rattle.eertree.proofs.Nodes.{root-zero, root-one, node-from-step, node-from}
+use Rattle.eertree.proofs.Replay.{Fits, step-there, read-none, read-old, read-fresh, read-new}
 use Rattle.store.specs.Layout.{cell, capacityIn, sizeIn, countIn, readingIn, lengthIn, linkIn, innerIn, outerIn, edgeIn, rankIn, usedIn, lettersAt, lettersIn}
 use Rattle.store.specs.Good.{ruleIn, ruleOf, tableIn, nodeIn, Sized, Good}
 use Rattle.store.specs.Writes.{towards}
 use Rattle.store.specs.declared.letters.Side.the-variants.{Right}
-use Rattle.walk.specs.Walk.{seenIn, Within, Chain, Meets, Stepped, grown, ended}
+use Rattle.store.proofs.Sizes.{rule-inverse, letters-length, used-below}
+use Rattle.walk.specs.Walk.{seenIn, Within, Chain, Meets, Stepped, grown, ended, Found}
 use Rattle.walk.specs.declared.Walked.{Walked}
 use Rattle.walk.specs.declared.Walked.the-variants.{At, Nothing}
-use Rattle.walk.proofs.Found.{Found, stored-reach, chain, meets-longest, meets-link}
-use Rattle.walk.proofs.Stores.{rule-inverse, store-long, rows-fit, letters-length}
+use Rattle.walk.proofs.Found.{stored-reach, chain, meets-longest, meets-link}
+use Rattle.walk.proofs.Stores.{store-long, rows-fit}
 use Rattle.walk.proofs.Towards.{letter-of}
-use Rattle.updates.proofs.Rows.{covers, used-root, used-is, used-below, used-rank, length-row}
+use Rattle.updates.proofs.Rows.{covers, used-root, used-is, used-rank, length-row}
 use Rattle.updates.proofs.Start.{Roots, roots-cover}
 use Rattle.audit.specs.Parts.{Ready}
 use Rattle.audit.specs.Tour.{metIn, Blank, Toured, Grows, PointsBack, LinkFound, alone, within, Visited}
@@ -103,17 +105,7 @@ good-names {b} g u d q v m e =
 
 -- ---- the start
 
--- at any depth rows 0 and 1 spell the roots
-root-zero : (σ : ℕ → ℕ) (inner outer : ℕ → ℕ) (depth : ℕ) → nodeFrom σ inner outer depth 0 ≡ imaginary
-unfolding nodeFrom
-root-zero σ inner outer zero = refl
-root-zero σ inner outer (suc depth) = refl
-
-root-one : (σ : ℕ → ℕ) (inner outer : ℕ → ℕ) (depth : ℕ) → nodeFrom σ inner outer depth 1 ≡ spelt []
-unfolding nodeFrom
-root-one σ inner outer zero = refl
-root-one σ inner outer (suc depth) = refl
-
+-- rows 0 and 1 spell the roots
 node-zero : (b : Word) → nodeIn b 0 ≡ imaginary
 unfolding nodeIn
 node-zero b = root-zero (ruleOf b) (innerIn b) (outerIn b) (capacityIn b + 2)

@@ -8,11 +8,11 @@ use Rattle.palindromes.specs.Word.{Word, allLetters}
 use Rattle.palindromes.specs.End.{End, atLeft, atRight, longestAt}
 use Rattle.palindromes.specs.Node.{spelt, around}
 use Rattle.palindromes.proofs.Lists.{same-test}
-use Rattle.eertree.proofs.Covers.{NodeOf, Covers, EdgesEnd, covers-shows}
-use Rattle.eertree.proofs.Replay.{withUsed}
+use Rattle.eertree.specs.Covers.{NodeOf, Covers, EdgesEnd, withUsed}
+use Rattle.eertree.proofs.Covers.{covers-shows}
 use Rattle.store.specs.Layout.{capacityIn, edgeIn, outerIn, usedIn, lettersIn}
 use Rattle.store.specs.Good.{ruleOf, tableIn, nodeIn, EndIs, RankIs, Good}
-use Rattle.updates.proofs.Rows.{used-below}
+use Rattle.store.proofs.Sizes.{used-below}
 use Rattle.audit.specs.Parts.{HeaderRight, FreePlaces, RootsRight, OrderRight}
 use Rattle.audit.specs.Tour.{metIn, Toured}
 use Rattle.audit.specs.Rows.{EdgeRight, nowhere, there, RowsRight, EndsRight}

@@ -8,8 +8,7 @@ use lib.ListN.{length, getD}
 use Rattle.palindromes.specs.Word.{Word}
 use Rattle.palindromes.specs.Record.{count, longestSuffix, longestPrefix}
 use Rattle.palindromes.specs.Node.{spelt, around}
-use Rattle.eertree.proofs.Covers.{Covers}
-use Rattle.eertree.proofs.Replay.{withUsed}
+use Rattle.eertree.specs.Covers.{Covers, withUsed}
 use Rattle.store.specs.Layout.{capacityIn, innerIn, outerIn, linkIn, usedIn, lettersIn}
 use Rattle.store.specs.Good.{ruleOf, tableIn, nodeIn, Good}
 use Rattle.walk.specs.Walk.{Stepped}

@@ -5,10 +5,12 @@ ghost use mathlib.Core.Bool.{true};
 ghost use Prim.Native.Nat.{_+_, _*_, _<_, _≤_};
 ghost use lib.ListN.{length};
 ghost use Rattle.palindromes.specs.Word.{isLetter, allLetters};
-ghost use Rattle.store.specs.Layout.{capacityIn, orderIn, rankIn, lettersIn};
+ghost use Rattle.store.specs.Layout.{capacityIn, lettersIn};
 ghost use Rattle.store.specs.Good.{Sized};
 ghost use Rattle.audit.specs.Decides.{Decides};
 ghost use Rattle.audit.specs.Parts.{HeaderRight, FreePlaces, ZeroCells, RootsRight, PlaceRight, OrderRight};
+use store::rows::order_of;
+use store::rows::rank_of;
 
 // Whether the store has the sizes that its header names, and the reading of a plain record.
 pub fn sized(b: &[u8]) -> bool
@@ -110,22 +112,6 @@ pub fn roots_right(b: &[u8]) -> bool
         return false;
     }
     true
-}
-
-// The row at place i of the order.
-pub fn order_of(b: &[u8], i: usize) -> usize
-    requires { ⌜ 24 * (i + 2) + 24 ≤ length (now b) ⌝ }
-    ensures { λ v. ⌜ (v ≡ orderIn (now (b .entry)) i) × (v < 65536) ⌝ }
-{
-    store::cells::get(b, i + 2, 8)
-}
-
-// The place of row r in the order.
-pub fn rank_of(b: &[u8], r: usize) -> usize
-    requires { ⌜ 24 * r + 24 ≤ length (now b) ⌝ }
-    ensures { λ v. ⌜ (v ≡ rankIn (now (b .entry)) r) × (v < 65536) ⌝ }
-{
-    store::cells::get(b, r, 9)
 }
 
 // Whether place i of the order and the rank of row i + 2 are right.

@@ -61,7 +61,7 @@ pub fn row_right(b: &[u8], marks: &[u8], r: usize) -> bool
     if r < 2 {
         return edges_right(b, marks, r);
     }
-    if store::header::count(b) <= fixed::rank_of(b, r) {
+    if store::header::count(b) <= store::rows::rank_of(b, r) {
         return fixed::zeros(b, r, 0, 8);
     }
     if marks[r] != 1 {

@@ -12,7 +12,6 @@ ghost use Rattle.walk.specs.Walk.{Chain};
 ghost use Rattle.audit.specs.Decides.{Decides};
 ghost use Rattle.audit.specs.Parts.{Ready};
 ghost use Rattle.audit.specs.Tour.{Blank, Toured, Grows, PointsBack, LinkFound, Visited};
-use super::fixed;
 use store::lengths::Place;
 use store::letters::Side;
 use store::rows::Row;
@@ -127,7 +126,7 @@ pub fn enter(b: &[u8], marks: &mut [u8], k: usize, tour: Tour, u: usize, d: u8) 
     if !longer_by_two(b, u, q) {
         return Visit::Broken;
     }
-    if store::header::count(b) <= fixed::rank_of(b, q) {
+    if store::header::count(b) <= store::rows::rank_of(b, q) {
         return Visit::Broken;
     }
     if store::rows::link_of(b, q) != link_found(b, k, u, d) {

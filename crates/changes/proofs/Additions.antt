@@ -24,7 +24,8 @@ use Rattle.palindromes.proofs.Words.{suffix-append, suffix-trans, suffix-snoc-b
 use Rattle.palindromes.proofs.Places.{stands-true, stands-is}
 use Rattle.palindromes.proofs.Longest.{longest-suffix}
 use Rattle.palindromes.proofs.Growth.{link-of-framed, link-of-letter, link-stood, inner-around, letter-around}
-use Rattle.eertree.proofs.Covers.{NodeOf, stands-empty}
+use Rattle.eertree.specs.Covers.{NodeOf}
+use Rattle.eertree.proofs.Covers.{stands-empty}
 use Rattle.eertree.proofs.Rows.{reachOf, row-reach-most, imaginary-row}
 use Rattle.store.specs.Layout.{cell, capacityIn, sizeIn, countIn, readingIn, endRow, linkIn, edgeIn, orderIn, usedIn, lettersAt, lettersIn}
 use Rattle.store.specs.Good.{ruleIn, ruleOf, nodeIn, Good}
@@ -33,18 +34,19 @@ use Rattle.store.specs.Side.{endOf}
 use Rattle.store.specs.Writes.{writes}
 use Rattle.store.specs.declared.letters.Side.{Side}
 use Rattle.store.specs.declared.rows.Row.{Row}
-use Rattle.walk.specs.Walk.{seenIn, Meets, Stepped, grown, ended}
-use Rattle.walk.specs.Replay.{Frames, lettersTowards}
+use Rattle.store.proofs.Sizes.{rule-inverse, rule-letter, letters-length}
+use Rattle.walk.specs.Walk.{seenIn, Meets, Stepped, grown, ended, Found}
+use Rattle.walk.specs.Replay.{Frames, lettersTowards, letterTowards}
 use Rattle.walk.specs.declared.replay.Frame.{Frame}
 use Rattle.walk.specs.declared.Walked.{Walked}
 use Rattle.walk.specs.declared.Walked.the-variants.{At, Nothing}
-use Rattle.walk.proofs.Found.{Found, meets-longest, meets-link}
-use Rattle.walk.proofs.Towards.{letterTowards, longest-towards, longest-towards-added, stands-towards}
-use Rattle.walk.proofs.Stores.{rule-inverse, rule-letter, framed-letters, framed-rule}
+use Rattle.walk.proofs.Found.{meets-longest, meets-link}
+use Rattle.walk.proofs.Towards.{longest-towards, longest-towards-added, stands-towards}
+use Rattle.walk.proofs.Stores.{framed-letters, framed-rule}
 use Rattle.walk.proofs.Reading.{covers-read, read-length}
 use Rattle.updates.specs.Rows.{rowOf, freeRow}
 use Rattle.updates.specs.Addition.{longestAfter, bringsIn, rowAfter, hangWrites, settleWrites, additionWrites, afterAddition}
-use Rattle.updates.proofs.Rows.{covers, edges-end, letters-length, count-most, row-fits, row-of, row-of-empty, edge-row, length-row, free-row}
+use Rattle.updates.proofs.Rows.{covers, edges-end, count-most, row-fits, row-of, row-of-empty, edge-row, length-row, free-row}
 use Rattle.changes.specs.Steps.{Met, RowFor, rowHung, endWrites}
 
 -- ---- words

@@ -26,13 +26,14 @@ use Rattle.store.specs.Layout.{capacityIn, sizeIn, countIn, readingIn, endRow, 
 use Rattle.store.specs.Good.{ruleOf, nodeIn, Good}
 use Rattle.store.specs.Writes.{towards, writes}
 use Rattle.store.proofs.Writes.{cell-sets, writes-append}
+use Rattle.store.proofs.Sizes.{rule-inverse, letters-length, used-below}
 use Rattle.walk.specs.Replay.{lettersTowards, Holds, Surveyed}
 use Rattle.walk.proofs.Towards.{towards-removed, longest-towards, stands-towards-test}
-use Rattle.walk.proofs.Stores.{rule-inverse, header-fits}
+use Rattle.walk.proofs.Stores.{header-fits}
 use Rattle.updates.specs.Rows.{rowOf}
 use Rattle.updates.specs.Removal.{longestBefore, takesOut, dropWrites, leaveWrites, removalWrites, afterRemoval}
 use Rattle.updates.proofs.Letters.{letter-byte}
-use Rattle.updates.proofs.Rows.{covers, letters-length, used-below, used-rank, used-fits, row-fits, row-of, count-most, outer-letter}
+use Rattle.updates.proofs.Rows.{covers, used-rank, used-fits, row-fits, row-of, count-most, outer-letter}
 use Rattle.changes.specs.Steps.{Parts, Leaves, endWrites}
 
 -- the empty string stands among any letters

@@ -15,7 +15,7 @@ use Rattle.store.specs.Writes.{Write, write, rowWrites}
 use Rattle.store.specs.declared.rows.Row.{Row}
 use Rattle.walk.specs.Replay.{lettersTowards}
 use Rattle.walk.specs.declared.Walked.{Walked}
-use Rattle.walk.proofs.Found.{Found}
+use Rattle.walk.specs.Walk.{Found}
 use Rattle.updates.specs.Rows.{rowOf}
 use Rattle.updates.specs.Addition.{longestAfter, bringsIn}
 use Rattle.updates.specs.Removal.{longestBefore, takesOut}

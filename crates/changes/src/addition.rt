@@ -25,7 +25,7 @@ ghost use Rattle.store.specs.Writes.{writes};
 ghost use Rattle.updates.specs.Rows.{rowOf, freeRow};
 ghost use Rattle.updates.specs.Addition.{longestAfter, bringsIn, afterAddition};
 ghost use Rattle.outcome.specs.Answers.{addedOf};
-ghost use Rattle.walk.proofs.Towards.{letterTowards};
+ghost use Rattle.walk.specs.Replay.{letterTowards};
 ghost use Rattle.changes.specs.Steps.{Met, RowFor, Grown, rowHung};
 
 // What a letter makes at an end: a palindrome that stood nowhere, with the row to write for it, or

@@ -2,44 +2,21 @@
 -- read only in part, row by row, has edges to rows that are not read yet. `EdgesEnd` is the half that is missing, and the two together are `Shows`. Both depend on the
 -- record through its palindromes only, so a table covers a record exactly if it covers the record's mirror. Here the empty word counts as a palindrome.
 -- Rests on the palindromes of a record as a list (`palindromes-true`, `palindromes-is`) and on `stands-in-mirror`.
-use Prim.Native.Nat.{ℕ, _≤_}
+use Prim.Native.Nat.{ℕ}
 use mathlib.Core.Path.{_≡_, refl, sym, _∙_, subst}
 use mathlib.Core.Bool.{true}
 use mathlib.Core.Logic.{_↔_, Iff·symm}
 use mathlib.Core.List.{[], _∷_, _++_, cons-ne-nil}
-use Rattle.palindromes.specs.Word.{Word, isLetter, member}
+use Rattle.palindromes.specs.Word.{Word, member}
 use Rattle.palindromes.specs.Palindrome.{SelfInverse, mirror, Symmetric}
 use Rattle.palindromes.specs.Place.{Stands}
 use Rattle.palindromes.specs.Record.{palindromes}
-use Rattle.palindromes.specs.Node.{Node, imaginary, spelt, lengthOf, linkOf, innerOf, around, isNode}
+use Rattle.palindromes.specs.Node.{Node, imaginary, spelt, around, isNode}
 use Rattle.palindromes.specs.Eertree.{Table, Shows}
 use Rattle.palindromes.proofs.Tests.{not-true-false, false-not-true}
 use Rattle.palindromes.proofs.Mirror.{mirror-empty, stands-in-mirror}
 use Rattle.palindromes.proofs.Palindromes.{palindromes-true, palindromes-is}
-
--- a node of the eertree of s: a root, or a symmetric word that stands in s, the empty word among them
-abbrev pub NodeOf : (ℕ → ℕ) → Word → Node → Type 0
-NodeOf σ s imaginary = Unit {0}
-NodeOf σ s (spelt w) = Symmetric σ w × Stands w s
-
--- the table is the eertree of the record, but for edges where the record has no palindrome
-pub record Covers (σ : ℕ → ℕ) (s : Word) (T : Table) (node : ℕ → Node) : Type 0 where
-  pub row-zero : (T .used 0 ≡ true) × (node 0 ≡ imaginary)
-  pub row-one : (T .used 1 ≡ true) × (node 1 ≡ spelt [])
-  pub each-row : (r : ℕ) → T .used r ≡ true → NodeOf σ s (node r)
-  pub each-word : (w : Word) → Symmetric σ w → Stands w s → (r : ℕ) × (T .used r ≡ true) × (node r ≡ spelt w)
-  pub one-row : (r q : ℕ) → T .used r ≡ true → T .used q ≡ true → node r ≡ node q → r ≡ q
-  pub length-is : (r : ℕ) → T .used r ≡ true → T .length r ≡ lengthOf (node r)
-  pub link-is : (r : ℕ) → T .used r ≡ true → (T .used (T .link r) ≡ true) × (node (T .link r) ≡ linkOf σ (node r))
-  pub inner-is : (r : ℕ) → T .used r ≡ true → (T .used (T .inner r) ≡ true) × (node (T .inner r) ≡ innerOf (node r))
-  pub outer-is : (r : ℕ) → T .used r ≡ true → 2 ≤ r → node r ≡ spelt (around σ (T .outer r) (node (T .inner r)))
-  pub edge-there :
-      (r c : ℕ) → T .used r ≡ true → isLetter c ≡ true → NodeOf σ s (spelt (around σ c (node r)))
-      → (T .used (T .edge r c) ≡ true) × (node (T .edge r c) ≡ spelt (around σ c (node r)))
-
--- no edge leads to a word that does not stand
-abbrev pub EdgesEnd : (ℕ → ℕ) → Word → Table → (ℕ → Node) → Type 0
-EdgesEnd σ s T node = (r c : ℕ) → T .used r ≡ true → isLetter c ≡ true → (NodeOf σ s (spelt (around σ c (node r))) → ⊥) → T .edge r c ≡ 0
+use Rattle.eertree.specs.Covers.{NodeOf, Covers, EdgesEnd}
 
 -- the two records have the same palindromes
 abbrev pub SamePalindromes : (ℕ → ℕ) → Word → Word → Type 0

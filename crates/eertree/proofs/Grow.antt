@@ -24,7 +24,8 @@ use Rattle.palindromes.proofs.Longest.{longest-suffix}
 use Rattle.palindromes.proofs.Change.{stands-added, stands-removed, at-most-one-new, new-is-longest, gone-is-longest}
 use Rattle.palindromes.proofs.NewIn.{longest-at}
 use Rattle.palindromes.proofs.Growth.{inner-stands, inner-around, around-injective}
-use Rattle.eertree.proofs.Covers.{NodeOf, Covers, EdgesEnd, SamePalindromes}
+use Rattle.eertree.specs.Covers.{NodeOf, Covers, EdgesEnd}
+use Rattle.eertree.proofs.Covers.{SamePalindromes}
 
 -- t has one palindrome more than s: w
 pub record OneMore (σ : ℕ → ℕ) (s t w : Word) : Type 0 where

@@ -4,13 +4,25 @@ use Prim.Native.Nat.{ℕ, zero, suc, _≤_}
 use native.Mathlib.Omega.{arith}
 use mathlib.Core.Path.{_≡_, refl, sym, ap}
 use mathlib.Core.Bool.{true}
+use mathlib.Core.List.{[]}
 use lib.ListN.{length}
 use Rattle.palindromes.specs.Word.{Word}
-use Rattle.palindromes.specs.Node.{Node, spelt, around}
+use Rattle.palindromes.specs.Node.{Node, imaginary, spelt, around}
 use Rattle.palindromes.specs.Eertree.{Table, nodeFrom}
 use Rattle.palindromes.proofs.Words.{no-letters}
-use Rattle.eertree.proofs.Covers.{Covers}
+use Rattle.eertree.specs.Covers.{Covers}
 use Rattle.eertree.proofs.Rows.{reachOf, row-reach-most, inner-falls, word-row}
+
+-- at any depth rows 0 and 1 spell the roots
+pub root-zero : (σ : ℕ → ℕ) (inner outer : ℕ → ℕ) (depth : ℕ) → nodeFrom σ inner outer depth 0 ≡ imaginary
+unfolding nodeFrom
+root-zero σ inner outer zero = refl
+root-zero σ inner outer (suc depth) = refl
+
+pub root-one : (σ : ℕ → ℕ) (inner outer : ℕ → ℕ) (depth : ℕ) → nodeFrom σ inner outer depth 1 ≡ spelt []
+unfolding nodeFrom
+root-one σ inner outer zero = refl
+root-one σ inner outer (suc depth) = refl
 
 -- a row that is no root spells the word around its inner row by its outer letter
 pub node-from-step : (σ : ℕ → ℕ) (inner outer : ℕ → ℕ) (depth r : ℕ) → 2 ≤ r → nodeFrom σ inner outer (suc depth) r ≡ spelt (around σ (outer r) (nodeFrom σ inner outer depth (inner r)))

@@ -16,12 +16,9 @@ use Rattle.palindromes.proofs.Tests.{false-not-true}
 use Rattle.palindromes.proofs.Words.{suffix-stands, stands-trans}
 use Rattle.palindromes.proofs.Longest.{longest-suffix}
 use Rattle.palindromes.proofs.Growth.{Walk, Faces, candidate-start, walk-link}
-use Rattle.eertree.proofs.Covers.{NodeOf, Covers, covers-same, stands-empty}
+use Rattle.eertree.specs.Covers.{withUsed, NodeOf, Covers}
+use Rattle.eertree.proofs.Covers.{covers-same, stands-empty}
 use Rattle.eertree.proofs.Grow.{Hung, same-snoc, one-more-snoc, grow-new}
-
--- the table with these rows used and no others
-abbrev pub withUsed : (ℕ → Bool) → Table → Table
-withUsed used T = record { used = used; length = T .length; link = T .link; inner = T .inner; outer = T .outer; edge = T .edge }
 
 -- row q says what is right of the word around row u by c
 pub record Fits (σ : ℕ → ℕ) (T : Table) (node : ℕ → Node) (u c q : ℕ) : Type 0 where

@@ -19,7 +19,7 @@ use Rattle.palindromes.specs.Node.{Node, imaginary, spelt, lengthOf, linkOf, in
 use Rattle.palindromes.specs.Eertree.{Table}
 use Rattle.palindromes.proofs.Words.{by-last, suffix-length, stands-length, added-removed, added-length}
 use Rattle.palindromes.proofs.Growth.{link-shorter}
-use Rattle.eertree.proofs.Covers.{NodeOf, Covers}
+use Rattle.eertree.specs.Covers.{NodeOf, Covers}
 
 -- the signed length of a node plus one
 abbrev pub reachOf : Node → ℕ

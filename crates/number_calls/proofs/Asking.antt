@@ -22,9 +22,10 @@ use Rattle.eertree.proofs.Rows.{reachOf, reach-length, row-reach-most}
 use Rattle.store.specs.Layout.{capacityIn, sizeIn, usedIn, lettersIn}
 use Rattle.store.specs.Good.{ruleOf, nodeIn, Good}
 use Rattle.store.specs.Lengths.{Stored}
+use Rattle.store.proofs.Sizes.{letters-length}
 use Rattle.updates.specs.Rows.{rowOf}
 use Rattle.updates.specs.Removal.{longestBefore}
-use Rattle.updates.proofs.Rows.{letters-length, row-of-small, covers}
+use Rattle.updates.proofs.Rows.{row-of-small, covers}
 use Rattle.outcome.specs.Reply.{Reply, packed, accepted, refusedWith, twosComplement}
 use Rattle.outcome.specs.Outcome.{viewIn, outcome, acceptedOutcome, changed}
 use Rattle.outcome.specs.Promise.{nothing, Left, Promise}

@@ -20,10 +20,10 @@ use Rattle.eertree.proofs.Rows.{row-high}
 use Rattle.store.specs.Layout.{sizeIn, readingIn, endRow, lettersIn}
 use Rattle.store.specs.Good.{ruleOf, Good}
 use Rattle.store.specs.Writes.{towards}
-use Rattle.updates.proofs.Rows.{covers, letters-length}
+use Rattle.store.proofs.Sizes.{rule-inverse, letters-length}
+use Rattle.updates.proofs.Rows.{covers}
 use Rattle.walk.specs.Replay.{lettersTowards, Surveyed}
 use Rattle.walk.proofs.Towards.{towards-removed, longest-towards, stands-towards-test}
-use Rattle.walk.proofs.Stores.{rule-inverse}
 
 -- the longest at the end
 abbrev pub longestIn : Word → End → Word

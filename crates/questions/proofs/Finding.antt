@@ -19,13 +19,13 @@ use Rattle.palindromes.proofs.Tests.{decided, not-true-false}
 use Rattle.palindromes.proofs.Words.{stands-length}
 use Rattle.palindromes.proofs.Palindromes.{palindromes-true, palindromes-is}
 use Rattle.palindromes.proofs.Search.{centreOf, reached, reached-start, reached-suc, reached-whole, missing-edge, symmetric-at, symmetric-by-letters}
-use Rattle.eertree.proofs.Covers.{NodeOf}
+use Rattle.eertree.specs.Covers.{NodeOf}
 use Rattle.store.specs.Layout.{sizeIn, readingIn, edgeIn, usedIn, lettersIn}
 use Rattle.store.specs.Good.{ruleOf, nodeIn, Good}
+use Rattle.store.proofs.Sizes.{rule-inverse, letters-length}
 use Rattle.updates.specs.Rows.{rowOf}
-use Rattle.updates.proofs.Rows.{covers, row-of, letters-length}
+use Rattle.updates.proofs.Rows.{covers, row-of}
 use Rattle.walk.proofs.Towards.{letter-of}
-use Rattle.walk.proofs.Stores.{rule-inverse}
 
 -- the letter at place j of the piece and the one facing it are partners
 abbrev pub Partners : Word → Word → ℕ → Type 0

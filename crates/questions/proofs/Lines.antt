@@ -17,7 +17,7 @@ use Rattle.palindromes.specs.Bed.{bedLine, listing}
 use Rattle.palindromes.proofs.Listing.{listing-empty, prefix-listing}
 use Rattle.store.specs.Layout.{sizeIn, lettersIn}
 use Rattle.store.specs.Good.{ruleOf, Good}
-use Rattle.updates.proofs.Rows.{letters-length}
+use Rattle.store.proofs.Sizes.{letters-length}
 use Rattle.questions.specs.Marks.{endingIn, ReadOn}
 
 -- the list of the first k letters

@@ -20,11 +20,12 @@ use Rattle.palindromes.proofs.Words.{same-or-not, suffix-stands, stands-of-empt
 use Rattle.palindromes.proofs.Longest.{longest-suffix}
 use Rattle.palindromes.proofs.Places.{stands-true, stands-is, stands-empty}
 use Rattle.palindromes.proofs.Answers.{prefix-met}
-use Rattle.eertree.proofs.Covers.{NodeOf}
+use Rattle.eertree.specs.Covers.{NodeOf}
 use Rattle.eertree.proofs.Rows.{word-row, row-high}
 use Rattle.store.specs.Layout.{sizeIn, rankIn, usedIn, lettersIn}
 use Rattle.store.specs.Good.{ruleOf, nodeIn, Good}
-use Rattle.updates.proofs.Rows.{covers, used-below, used-rank, count-most, letters-length}
+use Rattle.store.proofs.Sizes.{used-below, letters-length}
+use Rattle.updates.proofs.Rows.{covers, used-rank, count-most}
 use Rattle.walk.specs.Replay.{Holds}
 use Rattle.questions.specs.Marks.{endingIn, ReadTo, ReadOn}
 use Rattle.questions.proofs.Right.{right-first}

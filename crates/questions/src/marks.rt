@@ -1,7 +1,7 @@
 // Reading the letters of a record with a mark at each palindrome that has stood so far.
-use super::rows::rank_of;
 use super::spell::spelling_length;
 use store::letters::Side;
+use store::rows::rank_of;
 use walk::replay;
 ghost use Prim.Native.Nat.{_<_};
 ghost use Rattle.store.specs.Layout.{sizeIn};

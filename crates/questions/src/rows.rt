@@ -1,23 +1,14 @@
 // The rows of the table: which are in use, and what each says of its palindrome.
-use store::cells;
 use store::header;
 use store::rows;
 ghost use mathlib.Core.Path.{_≡_};
 ghost use mathlib.Core.Bool.{true};
-ghost use Prim.Native.Nat.{_+_, _*_, _<_, _≤_};
+ghost use Prim.Native.Nat.{_+_, _<_};
 ghost use lib.ListN.{length};
 ghost use Rattle.palindromes.specs.Node.{lengthOf, linkOf, innerOf};
-ghost use Rattle.store.specs.Layout.{rankIn, usedIn};
+ghost use Rattle.store.specs.Layout.{usedIn};
 ghost use Rattle.store.specs.Good.{ruleOf, nodeIn, Good};
 ghost use Rattle.updates.specs.Rows.{rowOf};
-
-// The place of row r in the order of rows, those in use first.
-pub fn rank_of(b: &[u8], r: usize) -> usize
-    requires { ⌜ 24 * r + 24 ≤ length (now b) ⌝ }
-    ensures { λ v. ⌜ (v ≡ rankIn (now (b .entry)) r) × (v < 65536) ⌝ }
-{
-    cells::get(b, r, 9)
-}
 
 // Whether the number is a root's or that of a row in use.
 pub fn is_used(b: &[u8], r: usize) -> bool
@@ -30,7 +21,7 @@ pub fn is_used(b: &[u8], r: usize) -> bool
     if header::capacity(b) + 2 <= r {
         return false;
     }
-    rank_of(b, r) < header::count(b)
+    rows::rank_of(b, r) < header::count(b)
 }
 
 // What the row question answers: the signed length of the row's palindrome, the row of its longest

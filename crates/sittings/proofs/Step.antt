@@ -22,10 +22,11 @@ use Rattle.palindromes.proofs.Palindromes.{fresh, fresh-old, fresh-new}
 use Rattle.palindromes.proofs.NewIn.{longest-at, new-in-added, gone-in-added, gone-in-removed, new-in-removed}
 use Rattle.store.specs.Layout.{capacityIn, sizeIn, usedIn, lettersIn}
 use Rattle.store.specs.Good.{nodeIn, Good}
+use Rattle.store.proofs.Sizes.{letters-length}
 use Rattle.updates.specs.Rows.{rowOf, freeRow}
 use Rattle.updates.specs.Addition.{longestAfter, bringsIn, rowAfter as rowAfterAddition, afterAddition}
 use Rattle.updates.specs.Removal.{longestBefore, takesOut, afterRemoval}
-use Rattle.updates.proofs.Rows.{letters-length, row-of, row-of-node}
+use Rattle.updates.proofs.Rows.{row-of, row-of-node}
 use Rattle.updates.proofs.Added as Updates·Added
 use Rattle.updates.proofs.Added.{addition}
 use Rattle.updates.proofs.Removed as Updates·Removed

@@ -15,12 +15,13 @@ use Rattle.palindromes.proofs.Tests.{not-true-false}
 use Rattle.palindromes.proofs.Palindromes.{palindromes-true, palindromes-is}
 use Rattle.palindromes.proofs.Growth.{link-stands, inner-of}
 use Rattle.palindromes.proofs.Longest.{longest-suffix}
-use Rattle.eertree.proofs.Covers.{NodeOf}
+use Rattle.eertree.specs.Covers.{NodeOf}
 use Rattle.eertree.proofs.Rows.{word-row, row-high}
 use Rattle.store.specs.Layout.{usedIn, lettersIn}
 use Rattle.store.specs.Good.{nodeIn, Good}
+use Rattle.store.proofs.Sizes.{used-below}
 use Rattle.updates.specs.Rows.{rowOf}
-use Rattle.updates.proofs.Rows.{covers, row-of, row-of-node, row-of-imaginary, row-of-empty, used-below}
+use Rattle.updates.proofs.Rows.{covers, row-of, row-of-node, row-of-imaginary, row-of-empty}
 use Rattle.updates.proofs.Letters.{letters-piece}
 use Rattle.outcome.specs.Reply.{refusedWith, accepted, twosComplement}
 use Rattle.outcome.specs.Outcome.{Outcome, outcome, acceptedOutcome, refusedOutcome, changed}

@@ -14,7 +14,7 @@ use Rattle.palindromes.specs.End.{End, letterAt}
 use Rattle.palindromes.specs.Node.{Node, imaginary, spelt, linkOf, innerOf}
 use Rattle.palindromes.specs.Refusal.{Call, opening, add, remove, askLength, askCount, askLongest, askLongestAt, askLetter, askRow, spell, find, list, fasta, refusal, storeSize}
 use Rattle.palindromes.proofs.Words.{stands-of-empty}
-use Rattle.eertree.proofs.Covers.{NodeOf}
+use Rattle.eertree.specs.Covers.{NodeOf}
 use Rattle.store.specs.Layout.{lettersIn}
 use Rattle.store.specs.Good.{ruleOf, Good}
 use Rattle.updates.specs.Rows.{rowOf}

@@ -3,3 +3,4 @@ pub mod Ends
 pub mod Signed
 pub mod Writes
 pub mod Edges
+pub mod Sizes

@@ -5,7 +5,7 @@ ghost use mathlib.Core.Path.{_≡_};
 ghost use Prim.Native.Nat.{_+_, _*_, _<_, _≤_};
 ghost use lib.ListN.{length};
 ghost use lib.IntN.{negsuc};
-ghost use Rattle.store.specs.Layout.{lengthIn, linkIn, innerIn, outerIn, edgeIn, edgeCell, setCell};
+ghost use Rattle.store.specs.Layout.{lengthIn, linkIn, innerIn, outerIn, edgeIn, edgeCell, orderIn, rankIn, setCell};
 ghost use Rattle.store.specs.Lengths.{Stored};
 ghost use Rattle.store.specs.Writes.{writes, rowWrites};
 
@@ -71,6 +71,22 @@ pub fn outer_of(b: &[u8], r: usize) -> usize
     ensures { λ v. ⌜ (v ≡ outerIn (now (b .entry)) r) × (v < 65536) ⌝ }
 {
     cells::get(b, r, 3)
+}
+
+// The place of row r in the order of rows, those in use first.
+pub fn rank_of(b: &[u8], r: usize) -> usize
+    requires { ⌜ 24 * r + 24 ≤ length (now b) ⌝ }
+    ensures { λ v. ⌜ (v ≡ rankIn (now (b .entry)) r) × (v < 65536) ⌝ }
+{
+    cells::get(b, r, 9)
+}
+
+// The row at place i of the order.
+pub fn order_of(b: &[u8], i: usize) -> usize
+    requires { ⌜ 24 * (i + 2) + 24 ≤ length (now b) ⌝ }
+    ensures { λ v. ⌜ (v ≡ orderIn (now (b .entry)) i) × (v < 65536) ⌝ }
+{
+    cells::get(b, i + 2, 8)
 }
 
 // The cell of a row that holds its edge by a letter.

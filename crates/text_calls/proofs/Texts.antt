@@ -18,8 +18,9 @@ use Rattle.bed.proofs.Listing.{listing-most}
 use Rattle.eertree.proofs.Rows.{reachOf, row-reach-most}
 use Rattle.store.specs.Layout.{usedIn, lettersIn}
 use Rattle.store.specs.Good.{ruleOf, nodeIn, Good}
+use Rattle.store.proofs.Sizes.{letters-length}
 use Rattle.updates.specs.Rows.{rowOf}
-use Rattle.updates.proofs.Rows.{letters-length, row-of-small, covers}
+use Rattle.updates.proofs.Rows.{row-of-small, covers}
 use Rattle.outcome.specs.declared.answers.Found.{Found}
 use Rattle.outcome.specs.Reply.{packed, accepted}
 use Rattle.outcome.specs.Answers.{foundOf, foundReply}

@@ -5,7 +5,7 @@ use mathlib.Core.Bool.{true}
 use Rattle.palindromes.specs.Word.{Word, isLetter}
 use Rattle.palindromes.specs.Node.{Node}
 use Rattle.palindromes.specs.Eertree.{Table}
-use Rattle.eertree.proofs.Covers.{Covers, EdgesEnd}
+use Rattle.eertree.specs.Covers.{Covers, EdgesEnd}
 
 -- T′ has the same used rows as T and says the same of them
 pub record SameRows (T T′ : Table) : Type 0 where

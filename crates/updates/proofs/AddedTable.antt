@@ -15,17 +15,19 @@ use Rattle.palindromes.specs.Node.{Node, spelt, around}
 use Rattle.palindromes.specs.Eertree.{Shows, nodeFrom}
 use Rattle.palindromes.proofs.Tests.{both-true, both-are, false-not-true, decided}
 use Rattle.palindromes.proofs.Lists.{either-true, left-is, right-is, same-test}
-use Rattle.eertree.proofs.Covers.{Covers, EdgesEnd, SamePalindromes, covers-renamed, covers-same, covers-shows, edges-end-renamed, edges-end-same}
+use Rattle.eertree.specs.Covers.{Covers, EdgesEnd}
+use Rattle.eertree.proofs.Covers.{SamePalindromes, covers-renamed, covers-same, covers-shows, edges-end-renamed, edges-end-same}
 use Rattle.eertree.proofs.Rows.{reach-length}
 use Rattle.eertree.proofs.Nodes.{node-from}
 use Rattle.eertree.proofs.Grow.{OneMore, Hung, same-added, grow-new, grow-new-edges}
 use Rattle.store.specs.Layout.{cell, capacityIn, countIn, readingIn, edgeCell, lengthIn, linkIn, innerIn, outerIn, edgeIn, rankIn, usedIn, lettersIn}
 use Rattle.store.specs.Good.{ruleIn, ruleOf, tableIn, nodeIn}
 use Rattle.store.proofs.Edges.{edge-low, edge-high, edge-same}
+use Rattle.store.proofs.Sizes.{rule-inverse, used-below}
 use Rattle.updates.specs.Rows.{freeRow}
 use Rattle.updates.specs.Addition.{longestAfter, bringsIn, afterAddition}
-use Rattle.updates.proofs.Rows.{covers, edges-end, count-most, used-root, used-is, used-below, used-rank, free-row}
-use Rattle.updates.proofs.AddedWord.{Accepted, rule-inverse, innerRow, lastLetter, length-after, stood, one-more, inner-found, link-found, last-letter, word-around}
+use Rattle.updates.proofs.Rows.{covers, edges-end, count-most, used-root, used-is, used-rank, free-row}
+use Rattle.updates.proofs.AddedWord.{Accepted, innerRow, lastLetter, length-after, stood, one-more, inner-found, link-found, last-letter, word-around}
 use Rattle.updates.proofs.AddedSame.{SameRows, covers-rows, edges-end-rows}
 use Rattle.updates.proofs.AddedBytes.{capacity-after, reading-after, rank-after, count-new, count-old, row-kept, length-new, link-new, inner-new, outer-new, edge-new, letters-are}
 

@@ -3,14 +3,14 @@
 -- Rests on `one-more-added` of the eertree, on `around-inner`, `inner-of` and `link-stands`, and on the rows of a good store.
 use Prim.Native.Nat.{ℕ, _+_, _≤_, _<_}
 use native.Mathlib.Omega.{arith}
-use mathlib.Core.Path.{_≡_, refl, ap, _∙_}
+use mathlib.Core.Path.{_≡_, ap, _∙_}
 use mathlib.Core.Bool.{true, false}
 use mathlib.Core.Logic.{⊎-elim}
 use mathlib.Core.List.{[], _∷_}
 use lib.ListN.{length}
 use borrow.Author.Tests.{not-true, not-false}
 use Rattle.palindromes.specs.Word.{Word, isLetter, allLetters}
-use Rattle.palindromes.specs.Palindrome.{SelfInverse, Symmetric}
+use Rattle.palindromes.specs.Palindrome.{Symmetric}
 use Rattle.palindromes.specs.Place.{Stands, stands}
 use Rattle.palindromes.specs.End.{End, atRight, added, letterAt}
 use Rattle.palindromes.specs.Node.{Node, imaginary, spelt, linkOf, innerOf, spellingOf, around}
@@ -20,15 +20,17 @@ use Rattle.palindromes.proofs.Longest.{longest-suffix}
 use Rattle.palindromes.proofs.Places.{stands-true, stands-false}
 use Rattle.palindromes.proofs.NewIn.{longest-at}
 use Rattle.palindromes.proofs.Growth.{inner-of, link-stands, around-inner}
-use Rattle.eertree.proofs.Covers.{NodeOf, stands-empty}
+use Rattle.eertree.specs.Covers.{NodeOf}
+use Rattle.eertree.proofs.Covers.{stands-empty}
 use Rattle.eertree.proofs.Rows.{reachOf, link-reach, inner-reach}
 use Rattle.eertree.proofs.Grow.{OneMore, one-more-added}
 use Rattle.store.specs.Layout.{capacityIn, sizeIn, readingIn, usedIn, lettersIn}
-use Rattle.store.specs.Good.{ruleIn, ruleOf, nodeIn, Good}
+use Rattle.store.specs.Good.{ruleOf, nodeIn, Good}
+use Rattle.store.proofs.Sizes.{rule-inverse, letters-length}
 use Rattle.updates.specs.Rows.{rowOf}
 use Rattle.updates.specs.Addition.{longestAfter, bringsIn}
 use Rattle.updates.proofs.Letters.{letters-piece, letters-added, letter-at-end}
-use Rattle.updates.proofs.Rows.{letters-length, row-of-node}
+use Rattle.updates.proofs.Rows.{row-of-node}
 
 -- ---- one palindrome more
 
@@ -61,10 +63,6 @@ module _ {σ : ℕ → ℕ} {s t w : Word} (o : OneMore σ s t w) where
   link-old = shorter-old (linkOf σ (spelt w)) (link-of σ w (o .symmetric) (o .there)) (link-reach σ (spelt w) not-imaginary)
 
 -- ---- an accepted addition
-
--- every partner rule that a store can name undoes itself
-pub rule-inverse : (reading : ℕ) → SelfInverse (ruleIn reading)
-rule-inverse reading x = refl
 
 -- what an addition asks for: a good store, a letter, and room for it
 pub record Accepted (e : End) (c : ℕ) (b : Word) : Type 0 where

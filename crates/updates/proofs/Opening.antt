@@ -15,13 +15,12 @@ use lib.Seq.{sets, sets-eq, length-sets, drop-at}
 use borrow.Author.Tests.{eq-eqb, ne-eqb}
 use Rattle.palindromes.specs.Word.{Word, allLetters}
 use Rattle.palindromes.specs.End.{End, atLeft, atRight}
-use Rattle.palindromes.specs.Node.{imaginary, spelt}
-use Rattle.palindromes.specs.Eertree.{nodeFrom}
 use Rattle.palindromes.specs.Refusal.{storeSize}
 use Rattle.palindromes.proofs.Longest.{longest-empty}
 use Rattle.palindromes.proofs.Palindromes.{count-empty}
 use Rattle.palindromes.proofs.Tests.{not-true-false, false-not-true}
 use Rattle.eertree.proofs.Covers.{covers-shows}
+use Rattle.eertree.proofs.Nodes.{root-zero, root-one}
 use Rattle.store.specs.Layout.{cellAt, cell, capacityIn, sizeIn, countIn, readingIn, endRow, lengthIn, linkIn, innerIn, outerIn, edgeCell, edgeIn, orderIn, rankIn, usedIn, lettersAt, lettersIn}
 use Rattle.store.specs.Writes.{Write, write}
 use Rattle.store.specs.Good.{ruleOf, tableIn, nodeIn, Sized, OrderIs, RankIs, EndIs, Good}
@@ -79,19 +78,6 @@ order-below zero m h = tt
 order-below (suc n) m h =
     below-append m (orderWrites n) (write (n + 2) 8 (n + 2) ∷ write (n + 2) 9 n ∷ []) (order-below n m (omega arith))
     (omega arith, omega arith, (omega arith, omega arith, tt))
-
--- ---- the roots
-
--- at any depth rows 0 and 1 spell the roots
-root-zero : (σ : ℕ → ℕ) (inner outer : ℕ → ℕ) (depth : ℕ) → nodeFrom σ inner outer depth 0 ≡ imaginary
-unfolding nodeFrom
-root-zero σ inner outer zero = refl
-root-zero σ inner outer (suc depth) = refl
-
-root-one : (σ : ℕ → ℕ) (inner outer : ℕ → ℕ) (depth : ℕ) → nodeFrom σ inner outer depth 1 ≡ spelt []
-unfolding nodeFrom
-root-one σ inner outer zero = refl
-root-one σ inner outer (suc depth) = refl
 
 -- ---- the bytes
 

@@ -21,10 +21,11 @@ use Rattle.store.specs.Good.{ruleOf, nodeIn, Good}
 use Rattle.store.proofs.Writes.{look, Fitting, RowsBelow, fitting-kept, cell-writes, length-writes, drop-writes, cell-sets}
 use Rattle.store.proofs.Parts.{drop-sets, sets-part}
 use Rattle.store.proofs.Edges.{edge-low, edge-high}
+use Rattle.store.proofs.Sizes.{used-below}
 use Rattle.updates.specs.Rows.{rowOf}
 use Rattle.updates.specs.Opening.{usedBytes}
 use Rattle.updates.specs.Removal.{longestBefore, takesOut, dropWrites, leaveWrites, removalWrites, afterRemoval}
-use Rattle.updates.proofs.Rows.{covers, used-below, used-rank, count-most, row-of-small, end-small, link-small, size-small}
+use Rattle.updates.proofs.Rows.{covers, used-rank, count-most, row-of-small, end-small, link-small, size-small}
 use Rattle.updates.proofs.Determined.{Bytes}
 use Rattle.updates.proofs.AddedRuns.{Misses, Puts, look-misses, look-puts, misses-after, puts-after, bytes-set, bytes-sets, bytes-writes}
 use Rattle.updates.proofs.AddedBytes.{used-bytes-fit, letters-from, end-cells}

@@ -15,14 +15,16 @@ use Rattle.palindromes.specs.End.{End, removed}
 use Rattle.palindromes.specs.Node.{spelt}
 use Rattle.palindromes.specs.Eertree.{Shows, nodeFrom}
 use Rattle.palindromes.proofs.Tests.{false-not-true, decided}
-use Rattle.eertree.proofs.Covers.{Covers, EdgesEnd, covers-renamed, covers-same, covers-shows, edges-end-renamed, edges-end-same}
+use Rattle.eertree.specs.Covers.{Covers, EdgesEnd}
+use Rattle.eertree.proofs.Covers.{covers-renamed, covers-same, covers-shows, edges-end-renamed, edges-end-same}
 use Rattle.eertree.proofs.Nodes.{node-from}
 use Rattle.eertree.proofs.Shrink.{Dropped, shrink, shrink-edges, leaf-inners, leaf-edges}
 use Rattle.store.specs.Layout.{cell, capacityIn, sizeIn, endRow, edgeCell, lengthIn, linkIn, innerIn, outerIn, edgeIn, usedIn, lettersIn}
 use Rattle.store.specs.Good.{ruleIn, ruleOf, tableIn, nodeIn, Good}
 use Rattle.store.proofs.Edges.{edge-low, edge-high, edge-same}
+use Rattle.store.proofs.Sizes.{used-below}
 use Rattle.updates.specs.Removal.{longestBefore, takesOut, afterRemoval}
-use Rattle.updates.proofs.Rows.{covers, edges-end, used-root, used-below, outer-letter}
+use Rattle.updates.proofs.Rows.{covers, edges-end, used-root, outer-letter}
 use Rattle.updates.proofs.AddedSame.{SameRows, covers-rows, edges-end-rows}
 use Rattle.updates.proofs.RemovedWord.{length-left, same-left, one-less}
 use Rattle.updates.proofs.RemovedBytes.{end-holds, gone-high, gone-low, capacity-left, reading-left, row-cleared, edge-cleared, row-kept, letters-are}

@@ -20,14 +20,14 @@ use Rattle.palindromes.proofs.Words.{added-removed, added-length}
 use Rattle.palindromes.proofs.Places.{stands-true, stands-false}
 use Rattle.palindromes.proofs.NewIn.{longest-at, count-removed}
 use Rattle.palindromes.proofs.Across.{whole-at, whole-test, across-added, across-whole}
-use Rattle.eertree.proofs.Covers.{NodeOf, SamePalindromes}
+use Rattle.eertree.specs.Covers.{NodeOf}
+use Rattle.eertree.proofs.Covers.{SamePalindromes}
 use Rattle.eertree.proofs.Grow.{OneMore, same-removed, one-more-removed}
 use Rattle.store.specs.Layout.{sizeIn, countIn, readingIn, lettersIn}
 use Rattle.store.specs.Good.{ruleOf, Good}
+use Rattle.store.proofs.Sizes.{rule-inverse, letters-length}
 use Rattle.updates.specs.Removal.{longestBefore, takesOut}
 use Rattle.updates.proofs.Letters.{letters-added}
-use Rattle.updates.proofs.Rows.{letters-length}
-use Rattle.updates.proofs.AddedWord.{rule-inverse}
 
 -- the longest at the other end after a removal: the link of the whole record, if that was symmetric, and what it was otherwise
 across-removed : (σ : ℕ → ℕ) (inv : SelfInverse σ) (e : End) (s : Word) → (s ≡ [] → ⊥)

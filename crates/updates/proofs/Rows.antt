@@ -7,25 +7,26 @@ use native.Mathlib.Nat.{eq-or-lt-of-le, le-of-suc-le-suc}
 use native.Mathlib.Omega.{arith}
 use mathlib.Core.Path.{_≡_, refl, sym, ap, _∙_, subst}
 use mathlib.Core.Bool.{Bool, true, false, cond, _&&_, true≢false}
-use mathlib.Core.Logic.{_⊎_, inl, inr, ⊎-elim}
+use mathlib.Core.Logic.{_⊎_, inl, inr}
 use mathlib.Core.List.{[]}
 use lib.Dec.{ltb}
-use lib.ListN.{length, drop, getD, length-drop}
-use lib.Seq.{length-take-le, getD-take, getD-drop}
+use lib.ListN.{length, getD}
+use lib.Seq.{getD-take, getD-drop}
 use borrow.Author.Tests.{ltb-true, ltb-false, lt-ltb, le-ltb}
 use Rattle.palindromes.specs.Word.{Word, isLetter}
 use Rattle.palindromes.specs.End.{End, atRight, letterAt, longestAt}
 use Rattle.palindromes.specs.Node.{Node, imaginary, spelt, lengthOf, linkOf, innerOf, around}
 use Rattle.palindromes.specs.Refusal.{storeSize}
 use Rattle.palindromes.proofs.Tests.{both-true, both-are, false-not-true, same-true, same-is}
-use Rattle.palindromes.proofs.Lists.{either-true}
 use Rattle.palindromes.proofs.Palindromes.{count-length}
 use Rattle.palindromes.proofs.Growth.{letter-around}
-use Rattle.eertree.proofs.Covers.{NodeOf, Covers, EdgesEnd, node-is, shows-covers, shows-edges-end}
+use Rattle.eertree.specs.Covers.{NodeOf, Covers, EdgesEnd}
+use Rattle.eertree.proofs.Covers.{node-is, shows-covers, shows-edges-end}
 use Rattle.eertree.proofs.Rows.{reachOf, row-reach, word-row}
 use Rattle.store.specs.Layout.{cell, capacityIn, sizeIn, countIn, endRow, lengthIn, linkIn, innerIn, outerIn, edgeIn, orderIn, rankIn, usedIn, lettersAt, lettersIn}
 use Rattle.store.specs.Writes.{stored}
 use Rattle.store.specs.Good.{ruleOf, tableIn, nodeIn, Sized, Good}
+use Rattle.store.proofs.Sizes.{letters-length, used-below}
 use Rattle.updates.specs.Rows.{sameNode, leastBelow, rowOf, freeRow}
 use Rattle.updates.proofs.Letters.{letters-piece, letter-at-end}
 
@@ -111,12 +112,7 @@ stored-length (spelt w) = refl
 
 -- ---- the letters
 
--- as many letters stand as the store says
-pub letters-length : {b : Word} → Sized b → length (lettersIn b) ≡ sizeIn b
-unfolding lettersIn storeSize
-letters-length {b} h = length-take-le (sizeIn b) (drop (lettersAt (capacityIn b)) b) (rw length-drop (omega (arith, h .long-enough, h .letters-fit)))
-
--- and each is read at its place
+-- each letter is read at its place
 pub letter-at : (b : Word) (i : ℕ) → i < sizeIn b → getD (lettersIn b) i 0 ≡ getD b (lettersAt (capacityIn b) + i) 0
 unfolding lettersIn
 letter-at b i h = rw (getD-take, getD-drop)
@@ -134,17 +130,9 @@ module _ (b : Word) (r : ℕ) where
   unfolding usedIn
   used-is l h = cc (le-ltb r 2 l, lt-ltb r (capacityIn b + 2) h)
 
-  -- and no number over capacity + 1
-  pub used-below : usedIn b r ≡ true → r < capacityIn b + 2
-  unfolding usedIn
-  used-below h =
-      ⊎-elim (λ e. omega (arith, ltb-true r 2 e))
-      (λ e. ltb-true r (capacityIn b + 2) (both-true (ltb r (capacityIn b + 2)) (ltb (rankIn b r) (countIn b)) e .0))
-      (either-true (ltb r 2) (ltb r (capacityIn b + 2) && ltb (rankIn b r) (countIn b)) h)
-
   -- so a used row that is no root has a rank below the count
   pub used-rank : 2 ≤ r → usedIn b r ≡ true → rankIn b r < countIn b
-  used-rank l u = ltb-true (rankIn b r) (countIn b) (sym (used-is l (used-below u)) ∙ u)
+  used-rank l u = ltb-true (rankIn b r) (countIn b) (sym (used-is l (used-below b r u)) ∙ u)
 
 -- a row of the store lies within its bytes
 pub row-fits : {b : Word} → Sized b → (r : ℕ) → r < capacityIn b + 2 → 24 * r + 24 ≤ length b

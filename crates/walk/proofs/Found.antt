@@ -22,23 +22,17 @@ use Rattle.palindromes.proofs.Tests.{both-true, both-are, false-not-true, decid
 use Rattle.palindromes.proofs.Words.{suffix-refl, suffix-append, suffix-trans, suffix-snoc-back}
 use Rattle.palindromes.proofs.Longest.{longest-suffix}
 use Rattle.palindromes.proofs.Growth.{Walk, Faces, preceded-within, nothing-longest, walk-hit, walk-from-link}
-use Rattle.eertree.proofs.Covers.{NodeOf, Covers}
+use Rattle.eertree.specs.Covers.{NodeOf, Covers, withUsed}
 use Rattle.eertree.proofs.Rows.{reachOf, link-reach, row-reach, imaginary-row, link-falls, faces-at, faces-outside}
-use Rattle.eertree.proofs.Replay.{withUsed, walk-first, walk-next}
+use Rattle.eertree.proofs.Replay.{walk-first, walk-next}
 use Rattle.store.specs.Layout.{cell, lengthIn, linkIn}
 use Rattle.store.specs.Good.{tableIn}
-use Rattle.walk.specs.Walk.{facesAt, Chain, root, further, Meets, letter, nothing, here, onward}
+use Rattle.walk.specs.Walk.{Found, facesAt, Chain, root, further, Meets, letter, nothing, here, onward}
 use Rattle.walk.specs.declared.Walked.{Walked}
-use Rattle.walk.specs.declared.Walked.the-variants.{At, Nothing}
 
 -- the used rows lie within the store
 abbrev pub RowsFit : Word → (ℕ → Bool) → Type 0
 RowsFit b used = (r : ℕ) → used r ≡ true → 24 * r + 24 ≤ length b
-
--- what the walk for the letter d in q has found: a used row, around which d makes the longest palindrome that ends q·d, or that none ends it but the empty word
-abbrev pub Found : (ℕ → ℕ) → (ℕ → Bool) → (ℕ → Node) → Word → ℕ → Walked → Type 0
-Found σ used node q d (At u) = (used u ≡ true) × (longestSuffix σ (q ++ (d ∷ [])) ≡ around σ d (node u))
-Found σ used node q d Nothing = longestSuffix σ (q ++ (d ∷ [])) ≡ []
 
 -- the word of a row that was found ends what is read, so that from its link the walk for the link of what it grows to can go
 pub found-ends : (σ : ℕ → ℕ) (q : Word) (d : ℕ) (w : Word) → longestSuffix σ (q ++ (d ∷ [])) ≡ around σ d (spelt w) → Suffix w q

@@ -23,14 +23,11 @@ use Rattle.palindromes.proofs.Words.{by-end, removed-added, removed-empty, adde
 use Rattle.palindromes.proofs.Mirror.{mirror-empty, mirror-cons, mirror-length, stands-in-mirror}
 use Rattle.palindromes.proofs.Longest.{longest-prefix}
 use Rattle.palindromes.proofs.Places.{stands-true, stands-is}
-use Rattle.eertree.proofs.Covers.{Covers, covers-mirror, covers-unmirror}
+use Rattle.eertree.specs.Covers.{Covers}
+use Rattle.eertree.proofs.Covers.{covers-mirror, covers-unmirror}
 use Rattle.store.specs.Writes.{towards}
 use Rattle.store.proofs.Ends.{mirror-at}
-
--- a letter as it is read towards an end: as it is at the right, its partner at the left
-abbrev pub letterTowards : (ℕ → ℕ) → End → ℕ → ℕ
-letterTowards σ atRight c = c
-letterTowards σ atLeft c = σ c
+use Rattle.walk.specs.Replay.{letterTowards}
 
 -- each letter of a word of letters is one
 pub letter-of : (s : Word) (k : ℕ) → k < length s → allLetters s ≡ true → isLetter (getD s k 0) ≡ true

@@ -6,7 +6,7 @@ use lib.ListN.{take}
 use Rattle.palindromes.specs.Word.{Word}
 use Rattle.palindromes.specs.Place.{stands}
 use Rattle.palindromes.specs.Record.{longestSuffix}
-use Rattle.palindromes.specs.End.{End}
+use Rattle.palindromes.specs.End.{End, atLeft, atRight}
 use Rattle.palindromes.specs.Node.{spelt}
 use Rattle.store.specs.Layout.{capacityIn, sizeIn, readingIn, usedIn, lettersAt, lettersIn}
 use Rattle.store.specs.Good.{ruleOf, nodeIn}
@@ -16,6 +16,11 @@ use Rattle.walk.specs.declared.replay.Frame.{Frame}
 -- the letters of the store, read towards an end
 abbrev pub lettersTowards : Word → End → Word
 lettersTowards b e = towards (ruleOf b) e (lettersIn b)
+
+-- a letter as it is read towards an end: as it is at the right, its partner at the left
+abbrev pub letterTowards : (ℕ → ℕ) → End → ℕ → ℕ
+letterTowards σ atRight c = c
+letterTowards σ atLeft c = σ c
 
 -- the frame is that of the store
 pub record Frames (b : Word) (f : Frame) : Type 0 where

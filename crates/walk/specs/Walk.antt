@@ -1,11 +1,14 @@
--- What the contracts of src/ say of a walk, in terms of the store's bytes alone; that it finds the longest palindrome is proved in proofs/.
+-- What the contracts of src/ say of a walk, in terms of the store's bytes alone, and what the walk has found in a table. That it finds the longest palindrome is proved in proofs/.
 -- b is the store, t the letters as they are read towards the call's side, k how many of them have been read, d the next letter and want its partner.
 use Prim.Native.Nat.{ℕ, _+_, _*_, _-_, _≤_, _<_}
 use mathlib.Core.Path.{_≡_}
 use mathlib.Core.Bool.{Bool, true, false, _&&_}
+use mathlib.Core.List.{[], _∷_, _++_}
 use lib.Dec.{leb, eqb}
 use lib.ListN.{length, getD, take, drop}
 use Rattle.palindromes.specs.Word.{Word}
+use Rattle.palindromes.specs.Record.{longestSuffix}
+use Rattle.palindromes.specs.Node.{Node, around}
 use Rattle.store.specs.Layout.{cell, linkIn, edgeIn}
 use Rattle.store.specs.Good.{ruleIn}
 use Rattle.store.specs.Side.{endOf}
@@ -44,3 +47,8 @@ pub data Meets (b t : Word) (k d want : ℕ) : ℕ → Walked → Type 0 where
 pub data Stepped (b t : Word) (k d want start q : ℕ) : Type 0 where
   grown : (u : ℕ) → Meets b t k d want start (At u) → q ≡ edgeIn b u d → Stepped b t k d want start q
   ended : Meets b t k d want start Nothing → q ≡ 1 → Stepped b t k d want start q
+
+-- what the walk for the letter d in q has found: a used row, around which d makes the longest palindrome that ends q·d, or that none ends it but the empty word
+abbrev pub Found : (ℕ → ℕ) → (ℕ → Bool) → (ℕ → Node) → Word → ℕ → Walked → Type 0
+Found σ used node q d (At u) = (used u ≡ true) × (longestSuffix σ (q ++ (d ∷ [])) ≡ around σ d (node u))
+Found σ used node q d Nothing = longestSuffix σ (q ++ (d ∷ [])) ≡ []

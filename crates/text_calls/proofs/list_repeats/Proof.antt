@@ -1,7 +1,7 @@
 -- `text_calls::list_repeats` keeps its promise. Assumes nothing.
 use native.Mathlib.Omega.{arith}
 use borrow.Author.Needs.{needs}
-use Rattle.updates.proofs.Rows.{letters-length}
+use Rattle.store.proofs.Sizes.{letters-length}
 use Rattle.outcome.proofs.Promises.{by-verdict}
 use Rattle.text_calls.proofs.Texts.{listable, listing-packs, listed-out}
 use Rattle.text_calls.proofs.list_repeats.Statement.{statement}

@@ -11,7 +11,8 @@ use Rattle.palindromes.specs.Word.{Word, isLetter, allLetters}
 use Rattle.palindromes.proofs.Tests.{false-not-true}
 use Rattle.store.specs.Layout.{capacityIn, sizeIn, lettersAt, lettersIn}
 use Rattle.store.specs.Good.{Sized}
-use Rattle.walk.proofs.Stores.{store-long, header-fits, letters-length}
+use Rattle.store.proofs.Sizes.{letters-length}
+use Rattle.walk.proofs.Stores.{store-long, header-fits}
 use Rattle.walk.proofs.Towards.{letter-of}
 use Rattle.updates.proofs.Rows.{letter-at}
 use Rattle.audit.proofs.Parts.{letters-all}

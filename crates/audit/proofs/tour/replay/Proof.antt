@@ -7,7 +7,8 @@ use lib.ListN.{take}
 use lib.Seq.{take-all}
 use Rattle.palindromes.specs.Word.{Word}
 use Rattle.store.specs.Layout.{sizeIn, lettersIn}
-use Rattle.walk.proofs.Stores.{header-fits, letters-length}
+use Rattle.store.proofs.Sizes.{letters-length}
+use Rattle.walk.proofs.Stores.{header-fits}
 use Rattle.audit.specs.Tour.{Toured}
 use Rattle.audit.specs.declared.tour.Tour.{Tour}
 use Rattle.audit.specs.declared.tour.Visit.the-variants.{Next, Broken}

@@ -7,7 +7,7 @@ use Rattle.store.specs.Good.{ruleIn, ruleOf}
 use Rattle.store.specs.Side.{endOf}
 use Rattle.walk.specs.declared.Walked.{Walked}
 use Rattle.walk.specs.declared.Walked.the-variants.{At}
-use Rattle.walk.proofs.Towards.{letterTowards}
+use Rattle.walk.specs.Replay.{letterTowards}
 use Rattle.walk.proofs.Stores.{header-fits}
 use Rattle.updates.proofs.Rows.{used-fits}
 use Rattle.changes.specs.Steps.{Met, RowFor}

@@ -7,7 +7,7 @@ use lib.ListN.{length, replicate, length-replicate}
 use lib.Seq.{sets, length-sets}
 use Rattle.palindromes.specs.Word.{Word}
 use Rattle.store.specs.Layout.{lettersIn}
-use Rattle.updates.proofs.Rows.{letters-length}
+use Rattle.store.proofs.Sizes.{letters-length}
 use Rattle.walk.proofs.Stores.{header-fits}
 use Rattle.questions.proofs.Stores.{sets-again, noughts}
 use Rattle.questions.proofs.Marking.{reads-first}

@@ -7,7 +7,7 @@ use mathlib.Core.Logic.{inl, inr, ⊎-elim}
 use lib.ListN.{length}
 use Rattle.store.specs.Layout.{lettersIn}
 use Rattle.store.specs.Good.{ruleOf}
-use Rattle.updates.proofs.Rows.{letters-length}
+use Rattle.store.proofs.Sizes.{letters-length}
 use Rattle.walk.specs.Replay.{Holds}
 use Rattle.walk.proofs.Stores.{header-fits}
 use Rattle.questions.specs.Marks.{endingIn}

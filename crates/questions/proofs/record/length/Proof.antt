@@ -1,6 +1,6 @@
 -- `questions::record::length` reads the header. Assumes nothing.
 use mathlib.Core.Path.{sym, _∙_}
-use Rattle.updates.proofs.Rows.{letters-length}
+use Rattle.store.proofs.Sizes.{letters-length}
 use Rattle.walk.proofs.Stores.{header-fits}
 use Rattle.questions.proofs.record.length.Statement.{statement}
 use Rattle.questions.proofs.record.length.Tie as tie

@@ -4,7 +4,8 @@ use native.Mathlib.Omega.{arith}
 use borrow.Author.Needs.{needs}
 use mathlib.Core.Path.{sym}
 use lib.ListN.{length}
-use Rattle.updates.proofs.Rows.{letters-length, letter-at}
+use Rattle.store.proofs.Sizes.{letters-length}
+use Rattle.updates.proofs.Rows.{letter-at}
 use Rattle.walk.proofs.Stores.{header-fits, store-long}
 use Rattle.questions.proofs.record.letter.Statement.{statement}
 use Rattle.questions.proofs.record.letter.Tie as tie

@@ -1,8 +1,8 @@
--- `audit::fixed::order_of` reads a place of the order. Assumes nothing.
+-- `store::rows::order_of` reads a place of the order. Assumes nothing.
 use borrow.Author.Needs.{needs}
 use Rattle.store.specs.Layout.{orderIn}
-use Rattle.audit.proofs.fixed.order_of.Statement.{statement}
-use Rattle.audit.proofs.fixed.order_of.Tie as tie
+use Rattle.store.proofs.rows.order_of.Statement.{statement}
+use Rattle.store.proofs.rows.order_of.Tie as tie
 
 returns : tie.Need-returns
 unfolding orderIn
