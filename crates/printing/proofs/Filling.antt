@@ -18,7 +18,7 @@ use Rattle.bed.proofs.Listing.{listing-most}
 use Rattle.updates.specs.Opening.{opened}
 use Rattle.updates.specs.Addition.{afterAddition}
 use Rattle.updates.proofs.Opening.{opened-capacity, opened-letters, opened-good}
-use Rattle.updates.proofs.Rows.{letters-length}
+use Rattle.store.proofs.Sizes.{letters-length}
 use Rattle.updates.proofs.Added.{addition}
 use Rattle.walk.proofs.Towards.{letter-of}
 use Rattle.printing.specs.Filled.{Filled}
