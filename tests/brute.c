@@ -32,15 +32,20 @@ size_t brute_places(const unsigned char *p, size_t m, const unsigned char *s, si
     return found;
 }
 
+size_t brute_first(const unsigned char *p, size_t m, const unsigned char *s, size_t n)
+{
+    for (size_t i = 0; i + m <= n; i++)
+        if (memcmp(s + i, p, m) == 0) return i;
+    return n + 1;
+}
+
 size_t brute_list(const unsigned char *rule, const unsigned char *s, size_t n, stretch *out)
 {
     size_t count = 0;
     for (size_t end = 1; end <= n; end++)
         for (size_t start = 0; start < end; start++) {
-            size_t first;
             if (!brute_palindrome(rule, s + start, end - start)) continue;
-            brute_places(s + start, end - start, s, n, &first);
-            if (first != start) continue;
+            if (brute_first(s + start, end - start, s, n) != start) continue;
             out[count].start = start;
             out[count].end = end;
             count++;

@@ -13,6 +13,8 @@ void brute_inverted(unsigned char rule[256]);
 int brute_palindrome(const unsigned char *rule, const unsigned char *w, size_t n);
 /* How many places the piece has in s, and the first of them (n + 1 where there is none). */
 size_t brute_places(const unsigned char *p, size_t m, const unsigned char *s, size_t n, size_t *first);
+/* The first place of the piece in s, n + 1 where there is none. */
+size_t brute_first(const unsigned char *p, size_t m, const unsigned char *s, size_t n);
 /* Every palindrome of s once, at its first place, ordered by end. Returns how many; out has room for n. */
 size_t brute_list(const unsigned char *rule, const unsigned char *s, size_t n, stretch *out);
 /* The longest palindrome and its leftmost place; 0 at 0 where there is none. */
