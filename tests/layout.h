@@ -1,0 +1,41 @@
+/* The store's bytes by docs/LAYOUT.md, for the tests that look into a store: nothing here comes from the library. */
+#ifndef LAYOUT_H
+#define LAYOUT_H
+#include <stddef.h>
+#include <stdint.h>
+
+enum { LAYOUT_MOST = 1024, ROW_BYTES = 24, ROW_CELLS = 12 };
+enum { CELL_LENGTH, CELL_LINK, CELL_INNER, CELL_OUTER, CELL_EDGES, CELL_ORDER = 8, CELL_RANK = 9, CELL_UNUSED = 10 };
+/* the header's cells: capacity to reading in row 0, both ends in row 1 */
+enum { CELL_CAPACITY = 8, CELL_SIZE, CELL_COUNT, CELL_READING };
+enum { CELL_LEFT = 8, CELL_RIGHT };
+
+static inline unsigned layout_cell(const uint8_t *store, size_t row, size_t cell)
+{
+    const uint8_t *at = store + ROW_BYTES * row + 2 * cell;
+    return at[0] + 256u * at[1];
+}
+
+static inline void layout_put(uint8_t *store, size_t row, size_t cell, unsigned value)
+{
+    uint8_t *at = store + ROW_BYTES * row + 2 * cell;
+    at[0] = (uint8_t)value;
+    at[1] = (uint8_t)(value >> 8);
+}
+
+static inline size_t layout_letters(size_t capacity)
+{
+    return ROW_BYTES * (capacity + 2);
+}
+
+/* how many bytes mean something */
+static inline size_t layout_used(size_t capacity)
+{
+    return 25 * capacity + 48;
+}
+
+static inline size_t layout_size(size_t capacity)
+{
+    return 48 * capacity + 256;
+}
+#endif

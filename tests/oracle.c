@@ -1,0 +1,230 @@
+#include "oracle.h"
+#include "guard.h"
+#include "judge.h"
+#include "mirror.h"
+#include <stdio.h>
+#include <stdlib.h>
+#include <string.h>
+
+enum { LENT = 100 * 1024, TEXT_SLOT = 0, OUT_SLOT, SCRATCH_SLOT };
+
+const char *const call_names[CALL_KINDS] = {"add left", "add right", "remove left", "remove right", "length", "count", "longest",
+    "longest left", "longest right", "letter", "row", "spell", "find", "list"};
+unsigned long oracle_calls;
+
+static unsigned char plain[256];
+static shown was, is;
+static const char *verdict;
+static uint8_t before[LENT];
+static uint8_t *text, *out, *scratch;
+static char wanted_out[64 * 1024];
+
+const char *oracle_verdict(void)
+{
+    return verdict;
+}
+
+static void fail(const call *c, const char *what, uint64_t wanted, uint64_t got, size_t length)
+{
+    printf("%s %llu, store of %zu bytes (%s): %s: wanted %llx, got %llx\nstore before:", call_names[c->kind], (unsigned long long)c->number,
+           length, verdict ? verdict : "good", what, (unsigned long long)wanted, (unsigned long long)got);
+    for (size_t i = 0; i < length && i < 2000; i++) printf(" %02x", before[i]);
+    printf("\n");
+    abort();
+}
+
+static uint64_t packed(unsigned flag, unsigned row, size_t first, size_t second)
+{
+    return (uint64_t)flag << 8 | (uint64_t)row << 16 | (uint64_t)first << 32 | (uint64_t)second << 48;
+}
+
+static uint64_t make(uint8_t *store, size_t length, const call *c)
+{
+    switch (c->kind) {
+    case ADD_LEFT: return mirror_add_left(store, length, c->number);
+    case ADD_RIGHT: return mirror_add_right(store, length, c->number);
+    case REMOVE_LEFT: return mirror_remove_left(store, length);
+    case REMOVE_RIGHT: return mirror_remove_right(store, length);
+    case LENGTH: return mirror_length(store, length);
+    case COUNT: return mirror_count(store, length);
+    case LONGEST: return mirror_longest(store, length);
+    case LONGEST_LEFT: return mirror_longest_left(store, length);
+    case LONGEST_RIGHT: return mirror_longest_right(store, length);
+    case LETTER: return mirror_letter(store, length, c->number);
+    case ROW: return mirror_row(store, length, c->number);
+    case SPELL: return mirror_spell(store, length, c->number, out, c->out_length);
+    case FIND: return mirror_find(store, length, text, c->text_length);
+    default: return mirror_list(store, length, text, c->text_length, scratch, c->scratch_length, out, c->out_length);
+    }
+}
+
+static int letter(uint64_t c)
+{
+    return c == 'A' || c == 'C' || c == 'G' || c == 'T';
+}
+
+/* the answer of a removal, and of an addition but for the number of its new row */
+static uint64_t change_answer(const call *c)
+{
+    int left = c->kind == ADD_LEFT || c->kind == REMOVE_LEFT;
+    unsigned char w[LAYOUT_MOST + 1];
+    size_t n = was.size, first;
+    if (c->kind == ADD_LEFT || c->kind == ADD_RIGHT) {
+        if (!letter(c->number)) return 4;
+        if (n == was.capacity) return 5;
+        memcpy(w + left, was.letters, n);
+        w[left ? 0 : n] = (unsigned char)c->number;
+        size_t m = left ? brute_left(plain, w, n + 1) : brute_right(plain, w, n + 1);
+        return packed(brute_places(left ? w : w + n + 1 - m, m, was.letters, n, &first) == 0, 0, 0, 0);
+    }
+    if (n == 0) return 6;
+    size_t m = left ? brute_left(plain, was.letters, n) : brute_right(plain, was.letters, n);
+    const unsigned char *longest = left ? was.letters : was.letters + n - m;
+    unsigned gone = brute_places(longest, m, was.letters + left, n - 1, &first) == 0;
+    return packed(gone, gone ? judge_row(&was, longest, m) : 0, was.letters[left ? 0 : n - 1], 0);
+}
+
+static uint64_t end_answer(int left)
+{
+    if (was.size == 0) return 6;
+    size_t m = left ? brute_left(plain, was.letters, was.size) : brute_right(plain, was.letters, was.size), first;
+    const unsigned char *w = left ? was.letters : was.letters + was.size - m;
+    return packed(brute_places(w, m, was.letters, was.size, &first) == 1, judge_row(&was, w, m), 0, 0);
+}
+
+static uint64_t row_answer(const call *c)
+{
+    if (c->number > was.capacity + 1 || !was.used[c->number]) return 7;
+    if (c->number < 2) return c->kind == SPELL ? 0 : packed(0, 0, c->number == 0 ? 65535 : 0, 0);
+    stretch at = was.rows[c->number];
+    size_t n = at.end - at.start, link = brute_link(plain, was.letters + at.start, n);
+    if (c->kind == SPELL) {
+        if (c->out_length < n) return 9;
+        memcpy(wanted_out, was.letters + at.start, n);
+        return packed(0, 0, n, 0);
+    }
+    unsigned inner = n == 1 ? 0 : n == 2 ? 1 : judge_row(&was, was.letters + at.start + 1, n - 2);
+    return packed(0, link ? judge_row(&was, was.letters + at.end - link, link) : 1, n, inner);
+}
+
+static uint64_t find_answer(const call *c)
+{
+    if (c->text_length == 0) return 8;
+    for (size_t i = 0; i < c->text_length; i++)
+        if (!letter(c->text[i])) return 4;
+    unsigned row = c->text_length > was.size ? 0 : judge_row(&was, c->text, c->text_length);
+    return packed(row != 0, row, 0, 0);
+}
+
+static uint64_t list_answer(const call *c)
+{
+    static stretch list[LAYOUT_MOST];
+    if (c->text_length < 1 || c->text_length > 32) return 10;
+    for (size_t i = 0; i < c->text_length; i++) {
+        unsigned char x = c->text[i];
+        if (!(x == '_' || (x >= '0' && x <= '9') || (x >= 'A' && x <= 'Z') || (x >= 'a' && x <= 'z'))) return 10;
+    }
+    size_t n = brute_list(plain, was.letters, was.size, list), size = 0;
+    for (size_t i = 0; i < n; i++)
+        size += (size_t)sprintf(wanted_out + size, "%.*s\t%zu\t%zu\n", (int)c->text_length, (const char *)c->text, list[i].start, list[i].end);
+    if (c->out_length < size || c->scratch_length < 4 * was.size) return 9;
+    return packed(0, 0, size, 0);
+}
+
+static uint64_t wanted_answer(const call *c)
+{
+    if (verdict) return 3;
+    switch (c->kind) {
+    case LENGTH: return packed(0, 0, was.size, 0);
+    case COUNT: return packed(0, 0, was.count, 0);
+    case LONGEST: {
+        stretch at = brute_longest(plain, was.letters, was.size);
+        return was.size ? packed(0, 0, at.end - at.start, at.start) : 6;
+    }
+    case LONGEST_LEFT: return end_answer(1);
+    case LONGEST_RIGHT: return end_answer(0);
+    case LETTER: return c->number < was.size ? packed(0, 0, was.letters[c->number], 0) : 7;
+    case ROW: case SPELL: return row_answer(c);
+    case FIND: return find_answer(c);
+    case LIST: return list_answer(c);
+    default: return change_answer(c);
+    }
+}
+
+/* the lent buffers: what must be written is, and every other byte is as it was lent */
+static void check_buffers(const call *c, size_t length, uint64_t answer)
+{
+    int done = (answer & 0xff) == 0;
+    size_t written = done && (c->kind == LIST || c->kind == SPELL) ? (answer >> 32 & 0xffff) : 0;
+    size_t cleared = done && c->kind == LIST ? 4 * was.size : 0;
+    if (c->text_length && memcmp(text, c->text, c->text_length) != 0) fail(c, "the piece or identifier changed", 0, 1, length);
+    for (size_t i = 0; i < c->out_length; i++) {
+        uint8_t wanted = i < written ? (uint8_t)wanted_out[i] : 0x5a;
+        if (out[i] != wanted) fail(c, "output byte", wanted, out[i], length);
+    }
+    for (size_t i = 0; i < c->scratch_length; i++)
+        if (scratch[i] != (i < cleared ? 0 : 0xa5)) fail(c, "scratch byte", i < cleared ? 0 : 0xa5, scratch[i], length);
+}
+
+/* the order after a change: an addition leaves it, a row that goes changes places with the last row in use */
+static void check_order(const uint8_t *store, size_t length, const call *c, unsigned gone)
+{
+    size_t last = was.count - 1, place = gone ? layout_cell(before, gone, CELL_RANK) : 0;
+    for (size_t i = 0; i < was.capacity; i++) {
+        size_t from = !gone ? i : i == place ? last : i == last ? place : i;
+        unsigned wanted = layout_cell(before, from + 2, CELL_ORDER), got = layout_cell(store, i + 2, CELL_ORDER);
+        if (wanted != got) fail(c, "the order of rows", wanted, got, length);
+    }
+    for (size_t r = 1; r < was.capacity + 2; r++)
+        for (size_t f = CELL_UNUSED; f < ROW_CELLS; f++)
+            if (layout_cell(before, r, f) != layout_cell(store, r, f)) fail(c, "a cell that is not used", r, f, length);
+    size_t used = layout_used(was.capacity);
+    if (memcmp(before + used, store + used, length - used) != 0) fail(c, "bytes beyond those used", 0, 1, length);
+}
+
+/* the letters after a change, and that every palindrome that stays keeps its row */
+static void check_change(const uint8_t *store, size_t length, const call *c, uint64_t answer)
+{
+    int left = c->kind == ADD_LEFT || c->kind == REMOVE_LEFT, adds = c->kind == ADD_LEFT || c->kind == ADD_RIGHT;
+    const shown *longer = adds ? &is : &was, *shorter = adds ? &was : &is;
+    const char *wrong = judge(store, length, &is);
+    unsigned row = answer >> 16 & 0xffff;
+    if (wrong) fail(c, wrong, 0, 1, length);
+    if (is.capacity != was.capacity || longer->size != shorter->size + 1) fail(c, "how many letters", was.size, is.size, length);
+    if (memcmp(longer->letters + left, shorter->letters, shorter->size) != 0) fail(c, "the letters that stay", 0, 1, length);
+    if (adds && is.letters[left ? 0 : was.size] != c->number) fail(c, "the letter added", c->number, 0, length);
+    for (unsigned r = 2; r < is.capacity + 2; r++) {
+        if (r == row && longer->used[r] && !shorter->used[r]) continue;
+        if (was.used[r] != is.used[r]) fail(c, "a row came or went", row, r, length);
+        if (!was.used[r]) continue;
+        size_t n = was.rows[r].end - was.rows[r].start, m = is.rows[r].end - is.rows[r].start;
+        if (n != m || memcmp(was.letters + was.rows[r].start, is.letters + is.rows[r].start, n) != 0) fail(c, "a row changed its palindrome", n, r, length);
+    }
+    check_order(store, length, c, adds ? 0 : row);
+}
+
+static void lend(const call *c)
+{
+    text = guarded(TEXT_SLOT, c->text, c->text_length);
+    out = guard_room(OUT_SLOT, c->out_length);
+    scratch = guard_room(SCRATCH_SLOT, c->scratch_length);
+    memset(out, 0x5a, c->out_length);
+    memset(scratch, 0xa5, c->scratch_length);
+}
+
+uint64_t oracle(uint8_t *store, size_t length, const call *c)
+{
+    brute_plain(plain);
+    verdict = judge(store, length, &was);
+    memcpy(before, store, length);
+    lend(c);
+    uint64_t wanted = wanted_answer(c), got = make(store, length, c);
+    int changes = c->kind <= REMOVE_RIGHT && (wanted & 0xff) == 0;
+    oracle_calls++;
+    if (changes && c->kind <= ADD_RIGHT && wanted != 0) wanted |= (uint64_t)layout_cell(before, was.count + 2, CELL_ORDER) << 16;
+    if (wanted != got) fail(c, "answer", wanted, got, length);
+    if (!changes && memcmp(store, before, length) != 0) fail(c, "the store changed", 0, 1, length);
+    if (changes) check_change(store, length, c, got);
+    check_buffers(c, length, got);
+    return got;
+}
