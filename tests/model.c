@@ -1,0 +1,292 @@
+#include "model.h"
+#include "brute.h"
+#include "guard.h"
+#include "mirror.h"
+#include "oracle.h"
+#include <stdio.h>
+#include <stdlib.h>
+#include <string.h>
+
+enum { SHORT = 48, MIDDLING = 200, PIECE_SLOT = 0, OUT_SLOT, SCRATCH_SLOT, STORE_SLOT };
+
+unsigned long model_calls, model_facts;
+
+static unsigned char plain[256];
+static unsigned char letters[MODEL_MOST];
+static size_t length, capacity, count;
+static struct { size_t length; unsigned char word[MODEL_MOST]; unsigned row; } repeats[MODEL_MOST];
+static uint8_t *store;
+static size_t store_length;
+static uint8_t before[64 * 1024];
+
+size_t model_length(void)
+{
+    return length;
+}
+
+static void fail(const char *what, unsigned long long wanted, unsigned long long got)
+{
+    printf("call %lu, %.*s (capacity %zu): %s: wanted %llx, got %llx\n", model_calls, (int)(length < 100 ? length : 100), (char *)letters,
+           capacity, what, wanted, got);
+    exit(1);
+}
+
+static void same(const char *what, uint64_t wanted, uint64_t got)
+{
+    model_facts++;
+    if (wanted != got) fail(what, wanted, got);
+}
+
+static uint64_t packed(unsigned flag, unsigned row, size_t first, size_t second)
+{
+    return (uint64_t)flag << 8 | (uint64_t)row << 16 | (uint64_t)first << 32 | (uint64_t)second << 48;
+}
+
+static void unchanged(const char *what)
+{
+    model_facts++;
+    if (memcmp(store, before, store_length) != 0) fail(what, 0, 1);
+}
+
+/* the number of the palindrome in the model, -1 where it does not stand */
+static long known(const unsigned char *w, size_t n)
+{
+    for (size_t i = 0; i < count; i++)
+        if (repeats[i].length == n && memcmp(repeats[i].word, w, n) == 0) return (long)i;
+    return -1;
+}
+
+static unsigned row_of(const unsigned char *w, size_t n)
+{
+    long i = known(w, n);
+    if (i < 0) fail("a repeat has no row", 0, 0);
+    return repeats[i].row;
+}
+
+static uint64_t find(const unsigned char *w, size_t n)
+{
+    return mirror_find(store, store_length, guarded(PIECE_SLOT, w, n), n);
+}
+
+/* one repeat: found at its row, with the fields that its letters give, and spelt */
+static void ask_repeat(size_t i)
+{
+    const unsigned char *w = repeats[i].word;
+    size_t n = repeats[i].length, link = brute_link(plain, w, n);
+    unsigned row = repeats[i].row;
+    unsigned link_row = link ? row_of(w + n - link, link) : 1;
+    unsigned inner_row = n == 1 ? 0 : n == 2 ? 1 : row_of(w + 1, n - 2);
+    uint8_t *out = guard_room(OUT_SLOT, n);
+
+    same("find", packed(1, row, 0, 0), find(w, n));
+    same("row", packed(0, link_row, n, inner_row), mirror_row(store, store_length, row));
+    if (row < 2 || row > capacity + 1) fail("a row outside 2 to capacity + 1", 0, row);
+    same("spell", packed(0, 0, n, 0), mirror_spell(store, store_length, row, out, n));
+    if (memcmp(out, w, n) != 0) fail("spelt bytes", 0, 0);
+    memset(out, 7, n);
+    same("spell, short", 9, mirror_spell(store, store_length, row, out, n - 1));
+    for (size_t k = 0; k < n; k++) same("spell, short: bytes", 7, out[k]);
+}
+
+/* every row that is no repeat's, and numbers that are no row's */
+static void ask_other_rows(void)
+{
+    static unsigned char taken[MODEL_MOST + 8];
+    memset(taken, 0, sizeof taken);
+    for (size_t i = 0; i < count; i++) taken[repeats[i].row] = 1;
+    for (unsigned r = 2; r < capacity + 5; r++) {
+        if (taken[r]) continue;
+        same("free row", 7, mirror_row(store, store_length, r));
+        same("free row spelt", 7, mirror_spell(store, store_length, r, guard_room(OUT_SLOT, 4), 4));
+    }
+    same("row 0", packed(0, 0, 65535, 0), mirror_row(store, store_length, 0));
+    same("row 1", packed(0, 0, 0, 0), mirror_row(store, store_length, 1));
+    same("row 2^32 + 2", 7, mirror_row(store, store_length, (1ull << 32) + 2));
+    same("row 0 spelt", 0, mirror_spell(store, store_length, 0, guard_room(OUT_SLOT, 0), 0));
+    same("row 1 spelt", 0, mirror_spell(store, store_length, 1, guard_room(OUT_SLOT, 0), 0));
+}
+
+/* pieces that are no repeats: every short stretch of the record, its neighbours, and what find refuses */
+static void ask_pieces(void)
+{
+    unsigned char piece[MODEL_MOST + 1];
+    memcpy(piece, letters, length);
+    for (size_t at = 0; at < length && at < SHORT; at++)
+        for (size_t n = 2; n <= 4 && at + n <= length; n++) {
+            piece[at]++;
+            same("find, no letter", 4, find(piece + at, n));
+            piece[at]--;
+            if (known(piece + at, n) < 0) same("find a piece that is no repeat", 0, find(piece + at, n));
+        }
+    memset(piece, 'A', length + 1);
+    if (known(piece, length) < 0 && length > 0) same("find as many A as letters", 0, find(piece, length));
+    same("find a piece longer than the record", 0, find(piece, length + 1));
+    same("find nothing", 8, find(piece, 0));
+    same("find N", 4, find((const unsigned char *)"ANA", 3));
+}
+
+/* the lent buffers around one accepted list */
+static void listed(const char *text, size_t size, const uint8_t *name, size_t name_length)
+{
+    uint8_t *out = guard_room(OUT_SLOT, size + 3), *scratch = guard_room(SCRATCH_SLOT, 4 * length + 2);
+    memset(out, 5, size + 3);
+    memset(scratch, 6, 4 * length + 2);
+    if (size > 0) same("list, output short", 9, mirror_list(store, store_length, name, name_length, scratch, 4 * length, out, size - 1));
+    if (length > 0) same("list, scratch short", 9, mirror_list(store, store_length, name, name_length, scratch, 4 * length - 1, out, size));
+    same("list, no identifier", 10, mirror_list(store, store_length, name, 0, scratch, 4 * length, out, size));
+    for (size_t i = 0; i < size + 3; i++) same("list refused: output", 5, out[i]);
+    for (size_t i = 0; i < 4 * length + 2; i++) same("list refused: scratch", 6, scratch[i]);
+    same("list", packed(0, 0, size, 0), mirror_list(store, store_length, name, name_length, scratch, 4 * length + 2, out, size + 3));
+    model_facts++;
+    if (memcmp(out, text, size) != 0) fail("listed bytes", 0, 0);
+    for (size_t i = 0; i < 3; i++) same("list: output beyond", 5, out[size + i]);
+    for (size_t i = 0; i < 4 * length; i++) same("list: scratch", 0, scratch[i]);
+    for (size_t i = 0; i < 2; i++) same("list: scratch beyond", 6, scratch[4 * length + i]);
+}
+
+static void ask_list(void)
+{
+    static stretch list[MODEL_MOST];
+    static char text[64 * 1024];
+    char name[64];
+    size_t n = brute_list(plain, letters, length, list), size = 0;
+    size_t name_length = (size_t)sprintf(name, "rec_%zu_%.*s", n, n % 2 ? 24 : 1, "abcdefghijklmnopqrstuvwxyz");
+    if (name_length > 32) name_length = 32;
+    if (n != count) fail("how many repeats stand", n, count);
+    for (size_t i = 0; i < n; i++) {
+        if (known(letters + list[i].start, list[i].end - list[i].start) < 0) fail("a repeat came in unseen", i, 0);
+        size += (size_t)sprintf(text + size, "%.*s\t%zu\t%zu\n", (int)name_length, name, list[i].start, list[i].end);
+    }
+    listed(text, size, guarded(PIECE_SLOT, (unsigned char *)name, name_length), name_length);
+}
+
+static void ask_ends(void)
+{
+    size_t n = brute_left(plain, letters, length), m = brute_right(plain, letters, length), first;
+    const unsigned char *right = letters + length - m;
+    if (length == 0) {
+        same("longest at the left", 6, mirror_longest_left(store, store_length));
+        same("longest at the right", 6, mirror_longest_right(store, store_length));
+        return;
+    }
+    same("longest at the left", packed(brute_places(letters, n, letters, length, &first) == 1, row_of(letters, n), 0, 0),
+         mirror_longest_left(store, store_length));
+    same("longest at the right", packed(brute_places(right, m, letters, length, &first) == 1, row_of(right, m), 0, 0),
+         mirror_longest_right(store, store_length));
+}
+
+void model_ask(void)
+{
+    stretch longest = brute_longest(plain, letters, length);
+    memcpy(before, store, store_length);
+    same("length", packed(0, 0, length, 0), mirror_length(store, store_length));
+    same("count", packed(0, 0, count, 0), mirror_count(store, store_length));
+    same("longest", length ? packed(0, 0, longest.end - longest.start, longest.start) : 6, mirror_longest(store, store_length));
+    ask_ends();
+    for (size_t i = 0; i < length; i++) same("letter", packed(0, 0, letters[i], 0), mirror_letter(store, store_length, i));
+    same("letter past the end", 7, mirror_letter(store, store_length, length));
+    same("letter far past the end", 7, mirror_letter(store, store_length, 1ull << 32));
+    for (size_t i = 0; i < count; i++) ask_repeat(i);
+    ask_other_rows();
+    ask_pieces();
+    ask_list();
+    unchanged("a question changed the store");
+}
+
+/* a change through the oracle while the record is short, and now and then later on */
+static uint64_t change(call_kind kind, unsigned letter)
+{
+    call c = {kind, letter, NULL, 0, 0, 0};
+    memcpy(before, store, store_length);
+    model_calls++;
+    if (length <= SHORT || model_calls % (length < MIDDLING ? 16 : 256) == 0) return oracle(store, store_length, &c);
+    switch (kind) {
+    case ADD_LEFT: return mirror_add_left(store, store_length, letter);
+    case ADD_RIGHT: return mirror_add_right(store, store_length, letter);
+    case REMOVE_LEFT: return mirror_remove_left(store, store_length);
+    default: return mirror_remove_right(store, store_length);
+    }
+}
+
+static void join(int left, unsigned letter)
+{
+    if (left) memmove(letters + 1, letters, length);
+    letters[left ? 0 : length] = (unsigned char)letter;
+    length++;
+}
+
+static void part(int left)
+{
+    length--;
+    if (left) memmove(letters, letters + 1, length);
+}
+
+static void bring_in(const unsigned char *w, size_t n, unsigned row)
+{
+    for (size_t i = 0; i < count; i++)
+        if (repeats[i].row == row) fail("a new repeat got a row that is taken", i, row);
+    memcpy(repeats[count].word, w, n);
+    repeats[count].length = n;
+    repeats[count++].row = row;
+}
+
+void model_add(int left, unsigned letter, int undo)
+{
+    uint64_t got = change(left ? ADD_LEFT : ADD_RIGHT, letter);
+    int valid = letter == 'A' || letter == 'C' || letter == 'G' || letter == 'T';
+    if (!valid || length == capacity) {
+        same("refused addition", valid ? 5 : 4, got);
+        unchanged("a refused addition changed the store");
+        return;
+    }
+    join(left, letter);
+    size_t n = left ? brute_left(plain, letters, length) : brute_right(plain, letters, length);
+    const unsigned char *w = left ? letters : letters + length - n;
+    unsigned fresh = known(w, n) < 0, row = fresh ? mirror_row_of(got) : 0;
+    same("addition", packed(fresh, row, 0, 0), got);
+    if (undo) {
+        uint64_t back = left ? mirror_remove_left(store, store_length) : mirror_remove_right(store, store_length);
+        same("addition undone", packed(fresh, row, letter, 0), back);
+        unchanged("an addition undone at once left other bytes");
+        part(left);
+    } else if (fresh) bring_in(w, n, row);
+}
+
+void model_remove(int left)
+{
+    unsigned char word[MODEL_MOST];
+    uint64_t got = change(left ? REMOVE_LEFT : REMOVE_RIGHT, 0);
+    if (length == 0) {
+        same("removal from nothing", 6, got);
+        unchanged("a refused removal changed the store");
+        return;
+    }
+    size_t n = left ? brute_left(plain, letters, length) : brute_right(plain, letters, length);
+    unsigned letter = letters[left ? 0 : length - 1];
+    memcpy(word, left ? letters : letters + length - n, n);
+    long i = known(word, n);
+    if (i < 0) fail("the longest repeat at the end has no row", 0, n);
+    part(left);
+    unsigned gone = brute_first(word, n, letters, length) > length;
+    same("removal", packed(gone, gone ? repeats[i].row : 0, letter, 0), got);
+    if (gone) repeats[i] = repeats[--count];
+}
+
+void model_open(size_t wanted, size_t extra)
+{
+    brute_plain(plain);
+    capacity = wanted;
+    length = count = 0;
+    store_length = MIRROR_STORE_SIZE(capacity) + extra;
+    store = guard_room(STORE_SLOT, store_length);
+    for (size_t i = 0; i < store_length; i++) store[i] = (uint8_t)(i * 7 + wanted);
+    memcpy(before, store, store_length);
+    same("capacity 0", 1, mirror_open(store, store_length, 0));
+    same("capacity 1,025", 1, mirror_open(store, store_length, 1025));
+    same("capacity 2^32 + 1", 1, mirror_open(store, store_length, (1ull << 32) + 1));
+    same("store too short", 2, mirror_open(store, MIRROR_STORE_SIZE(capacity) - 1, capacity));
+    same("capacity before length", 1, mirror_open(store, 0, 0));
+    unchanged("a refused opening changed the store");
+    same("opening", 0, mirror_open(store, store_length, capacity));
+    for (size_t i = 25 * capacity + 48; i < store_length; i++) same("bytes beyond", before[i], store[i]);
+}
