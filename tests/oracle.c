@@ -24,9 +24,11 @@ const char *oracle_verdict(void)
     return verdict;
 }
 
+static const call opening = {CALL_KINDS, 0, NULL, 0, 0, 0};
+
 static void fail(const call *c, const char *what, uint64_t wanted, uint64_t got, size_t length)
 {
-    printf("%s %llu, store of %zu bytes (%s): %s: wanted %llx, got %llx\nstore before:", call_names[c->kind], (unsigned long long)c->number,
+    printf("%s %llu, store of %zu bytes (%s): %s: wanted %llx, got %llx\nstore before:", c == &opening ? "open" : call_names[c->kind], (unsigned long long)c->number,
            length, verdict ? verdict : "good", what, (unsigned long long)wanted, (unsigned long long)got);
     for (size_t i = 0; i < length && i < 2000; i++) printf(" %02x", before[i]);
     printf("\n");
@@ -210,6 +212,32 @@ static void lend(const call *c)
     scratch = guard_room(SCRATCH_SLOT, c->scratch_length);
     memset(out, 0x5a, c->out_length);
     memset(scratch, 0xa5, c->scratch_length);
+}
+
+/* an opened store: good, empty, the cells that are not used cleared, the bytes beyond as they were */
+static void check_opened(const uint8_t *store, size_t length, uint64_t capacity)
+{
+    const char *wrong = judge(store, length, &is);
+    size_t used = layout_used(capacity);
+    if (wrong) fail(&opening, wrong, 0, 1, length);
+    if (is.capacity != capacity || is.size != 0) fail(&opening, "capacity and letters", capacity, is.capacity, length);
+    for (size_t r = 1; r < capacity + 2; r++)
+        for (size_t f = CELL_UNUSED; f < ROW_CELLS; f++)
+            if (layout_cell(store, r, f) != 0) fail(&opening, "a cell that is not used", r, f, length);
+    if (memcmp(before + used, store + used, length - used) != 0) fail(&opening, "bytes beyond those used", 0, 1, length);
+}
+
+uint64_t oracle_open(uint8_t *store, size_t length, uint64_t capacity)
+{
+    uint64_t wanted = capacity < 1 || capacity > LAYOUT_MOST ? 1 : length < layout_size(capacity) ? 2 : 0;
+    memcpy(before, store, length);
+    uint64_t got = mirror_open(store, length, capacity);
+    oracle_calls++;
+    verdict = NULL;
+    if (wanted != got) fail(&opening, "answer", wanted, got, length);
+    if (got != 0 && memcmp(store, before, length) != 0) fail(&opening, "the store changed", 0, 1, length);
+    if (got == 0) check_opened(store, length, capacity);
+    return got;
 }
 
 uint64_t oracle(uint8_t *store, size_t length, const call *c)

@@ -1,0 +1,162 @@
+/* A fuzz target for the C boundary: the input is a list of calls and of damage to the store, and every call is held
+ * against the oracle. It runs under libFuzzer (tests/fuzz-run), under AFL++ and by hand: the standalone program reads
+ * the files named, or standard input.
+ *
+ * The first byte gives the capacity. Then: acgt add at the right, ACGT at the left, < and > remove at an end,
+ * ? and a byte ask a question, ! and three bytes change a byte, = and three bytes set a cell, # and two bytes do one of
+ * the kinds of damages.c, ~ takes the last good store again, / and a byte change the length lent, @ and a byte open
+ * again. Any other byte is added as a letter that is none. A missing argument is 0. */
+#include "damages.h"
+#include "guard.h"
+#include "oracle.h"
+#include "random.h"
+#include <stdio.h>
+#include <stdlib.h>
+#include <string.h>
+
+enum { ROOM = 60 * 1024, STORE_SLOT = 3, TEXT = 40 };
+
+int LLVMFuzzerTestOneInput(const uint8_t *data, size_t size);
+
+static const uint8_t *input;
+static size_t left_over;
+static uint8_t *store, kept[ROOM];
+static size_t length, whole, kept_length;
+
+static unsigned next(void)
+{
+    if (left_over == 0) return 0;
+    left_over--;
+    return *input++;
+}
+
+static void make(call_kind kind, uint64_t number)
+{
+    call c = {kind, number, NULL, 0, 0, 0};
+    oracle(store, length, &c);
+}
+
+/* a small buffer length, or one that is always enough */
+static size_t room(void)
+{
+    unsigned n = next();
+    return n < 200 ? n : 48 * 1024;
+}
+
+static void ask(void)
+{
+    unsigned char text[TEXT];
+    unsigned what = next();
+    call c = {(call_kind)(LENGTH + what % 10), 0, text, 0, 0, 0};
+    if (c.kind == LETTER || c.kind == ROW || c.kind == SPELL) c.number = what < 128 ? next() : (uint64_t)next() << (what % 57);
+    if (c.kind == SPELL) c.out_length = room();
+    if (c.kind == FIND || c.kind == LIST) {
+        c.text_length = next() % TEXT;
+        for (size_t i = 0; i < c.text_length; i++) text[i] = (unsigned char)next();
+    }
+    if (c.kind == LIST) c.scratch_length = room(), c.out_length = room();
+    oracle(store, length, &c);
+}
+
+/* damage that needs a good store to start from; what was good is kept for ~ */
+static void spoil(void)
+{
+    static shown s;
+    unsigned kind = next(), seed = next();
+    random_seed(NULL, 1 + seed);
+    if (judge(store, length, &s) != NULL) return;
+    memcpy(kept, store, length);
+    kept_length = length;
+    damages[kind % damage_kinds].make(store, &length, &s);
+}
+
+static void restore(void)
+{
+    memcpy(store, kept, kept_length);
+    length = kept_length;
+}
+
+static void open_again(unsigned number)
+{
+    uint64_t capacity = number < 250 ? number % 24 + 1 : number == 250 ? 1025 : number - 251;
+    if (oracle_open(store, length, capacity) != 0) return;
+    memcpy(kept, store, length);
+    kept_length = length;
+}
+
+static void one(unsigned what)
+{
+    size_t at;
+    switch (what) {
+    case 'a': case 'c': case 'g': case 't': make(ADD_RIGHT, what - 32); break;
+    case 'A': case 'C': case 'G': case 'T': make(ADD_LEFT, what); break;
+    case '<': make(REMOVE_LEFT, 0); break;
+    case '>': make(REMOVE_RIGHT, 0); break;
+    case '?': ask(); break;
+    case '!': at = (next() * 256 + next()) % whole; store[at] = (uint8_t)next(); break;
+    case '=': at = next() % 26; what = next(); layout_put(store, at % (whole / 48), what % ROW_CELLS, next()); break;
+    case '#': spoil(); break;
+    case '~': restore(); break;
+    case '/': length = whole - next() % 12; break;
+    case '@': open_again(next()); break;
+    default: make(what % 2 ? ADD_LEFT : ADD_RIGHT, what < 128 ? what : (uint64_t)what << (what % 57));
+    }
+}
+
+int LLVMFuzzerTestOneInput(const uint8_t *data, size_t size)
+{
+    input = data;
+    left_over = size;
+    unsigned first = next();
+    guard_at(first % 2 ? GUARD_BEFORE : GUARD_AFTER);
+    length = whole = layout_size(first % 24 + 1) + first % 7;
+    store = guard_room(STORE_SLOT, whole);
+    memset(store, (int)first, whole);
+    memcpy(kept, store, whole);
+    kept_length = whole;
+    open_again(first % 24);
+    while (left_over > 0) one(next());
+    make(COUNT, 0);
+    return 0;
+}
+
+#ifndef FUZZ_ENGINE
+static void run(FILE *in)
+{
+    static uint8_t data[1 << 20];
+    LLVMFuzzerTestOneInput(data, fread(data, 1, sizeof data, in));
+}
+
+/* inputs that look random, mostly of bytes that mean something */
+static void run_random(const char *seed, int rounds)
+{
+    static const char meant[] = "acgtACGTacgtACGT<>?#~!=/@";
+    uint8_t data[200];
+    for (int i = 0; i < rounds; i++) {
+        random_seed(NULL, strtoull(seed, NULL, 10) * 1000003u + 2u * (unsigned)i + 1);
+        size_t n = 1 + random_below(sizeof data);
+        for (size_t k = 0; k < n; k++) data[k] = random_below(6) ? (uint8_t)meant[random_below(sizeof meant - 1)] : (uint8_t)random_below(256);
+        LLVMFuzzerTestOneInput(data, n);
+    }
+}
+
+/* fuzz FILE..   fuzz --random SEED INPUTS   fuzz < FILE */
+int main(int argc, char **argv)
+{
+    int inputs = argc == 1 ? 1 : argc - 1;
+    if (argc == 4 && strcmp(argv[1], "--random") == 0) run_random(argv[2], inputs = atoi(argv[3]));
+    else if (argc == 1) run(stdin);
+    else
+        for (int i = 1; i < argc; i++) {
+            FILE *in = fopen(argv[i], "rb");
+            if (in == NULL) {
+                perror(argv[i]);
+                return 1;
+            }
+            run(in);
+            fclose(in);
+        }
+    printf("%d inputs, %lu calls agree\n", inputs, oracle_calls);
+    return 0;
+}
+#endif
