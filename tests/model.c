@@ -86,6 +86,10 @@ static void ask_repeat(size_t i)
     memset(out, 7, n);
     same("spell, short", 9, mirror_spell(store, store_length, row, out, n - 1));
     for (size_t k = 0; k < n; k++) same("spell, short: bytes", 7, out[k]);
+    out = guard_room(OUT_SLOT, n + 2);
+    memset(out, 7, n + 2);
+    same("spell with room", packed(0, 0, n, 0), mirror_spell(store, store_length, row, out, n + 2));
+    same("spell with room: bytes beyond", 7 + 256 * 7, out[n] + 256u * out[n + 1]);
 }
 
 /* every row that is no repeat's, and numbers that are no row's */
@@ -134,6 +138,8 @@ static void listed(const char *text, size_t size, const uint8_t *name, size_t na
     if (size > 0) same("list, output short", 9, mirror_list(store, store_length, name, name_length, scratch, 4 * length, out, size - 1));
     if (length > 0) same("list, scratch short", 9, mirror_list(store, store_length, name, name_length, scratch, 4 * length - 1, out, size));
     same("list, no identifier", 10, mirror_list(store, store_length, name, 0, scratch, 4 * length, out, size));
+    same("list, 33 bytes", 10, mirror_list(store, store_length, (const uint8_t *)"abcdefghijklmnopqrstuvwxyz_012345", 33, scratch, 4 * length, out, size));
+    same("list, a dash", 10, mirror_list(store, store_length, (const uint8_t *)"a-b", 3, scratch, 4 * length, out, size));
     for (size_t i = 0; i < size + 3; i++) same("list refused: output", 5, out[i]);
     for (size_t i = 0; i < 4 * length + 2; i++) same("list refused: scratch", 6, scratch[i]);
     same("list", packed(0, 0, size, 0), mirror_list(store, store_length, name, name_length, scratch, 4 * length + 2, out, size + 3));
@@ -194,7 +200,7 @@ void model_ask(void)
 }
 
 /* a change through the oracle while the record is short, and now and then later on */
-static uint64_t change(call_kind kind, unsigned letter)
+static uint64_t change(call_kind kind, uint64_t letter)
 {
     call c = {kind, letter, NULL, 0, 0, 0};
     memcpy(before, store, store_length);
@@ -208,7 +214,7 @@ static uint64_t change(call_kind kind, unsigned letter)
     }
 }
 
-static void join(int left, unsigned letter)
+static void join(int left, uint64_t letter)
 {
     if (left) memmove(letters + 1, letters, length);
     letters[left ? 0 : length] = (unsigned char)letter;
@@ -230,7 +236,7 @@ static void bring_in(const unsigned char *w, size_t n, unsigned row)
     repeats[count++].row = row;
 }
 
-void model_add(int left, unsigned letter, int undo)
+void model_add(int left, uint64_t letter, int undo)
 {
     uint64_t got = change(left ? ADD_LEFT : ADD_RIGHT, letter);
     int valid = letter == 'A' || letter == 'C' || letter == 'G' || letter == 'T';

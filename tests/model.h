@@ -4,6 +4,7 @@
 #ifndef MODEL_H
 #define MODEL_H
 #include <stddef.h>
+#include <stdint.h>
 
 enum { MODEL_MOST = 1024 };
 
@@ -12,7 +13,7 @@ extern unsigned long model_calls, model_facts;
 /* Refused openings, then an accepted one, in a store of so many bytes more than it needs. */
 void model_open(size_t capacity, size_t extra);
 /* An addition at an end; with undo it is taken back at once, and every byte of the store must be as before. */
-void model_add(int left, unsigned letter, int undo);
+void model_add(int left, uint64_t letter, int undo);
 void model_remove(int left);
 /* Every question with every argument that matters, refused ones among them. */
 void model_ask(void);

@@ -34,6 +34,9 @@ static unsigned letter_of(int word, unsigned i)
     }
 }
 
+/* numbers that are no letters, some of them only after they are narrowed */
+static const uint64_t no_letters[] = {'N', 'U', 'a', 't', 0, 255, 'A' + 256, 'T' + 65536, 'C' + (1ull << 32), 'G' + (1ull << 63)};
+
 static void random_sitting(size_t capacity, unsigned turns, unsigned alphabet, unsigned removing)
 {
     model_open(capacity, random_below(3) * 11);
@@ -41,7 +44,7 @@ static void random_sitting(size_t capacity, unsigned turns, unsigned alphabet, u
     for (unsigned i = 0; i < turns; i++) {
         unsigned what = random_below(100);
         int left = (int)random_below(2);
-        if (what < 4) model_add(left, (unsigned)"NUacgt\0\377"[random_below(8)] & 0xffff, 0);
+        if (what < 4) model_add(left, no_letters[random_below(sizeof no_letters / sizeof no_letters[0])], 0);
         else if (what < 10) model_add(left, (unsigned char)"ACGT"[random_below(alphabet)], 1);
         else if (what < 10 + removing) model_remove(left);
         else model_add(left, (unsigned char)"ACGT"[random_below(alphabet)], 0);

@@ -1,0 +1,67 @@
+/* What the files of damages share: the damage of each kind, and small changes to a store. */
+#ifndef DAMAGES_PARTS_H
+#define DAMAGES_PARTS_H
+#include "damages.h"
+
+#define DAMAGE(name) int name(uint8_t *store, size_t *length, const shown *s)
+
+/* any row from 2 on, and one that is in use (or free), 0 where none was found */
+unsigned any_row(const shown *s);
+unsigned row_that_is(const shown *s, int used);
+/* cells from one to before another of two rows exchanged */
+void exchange_cells(uint8_t *store, size_t r, size_t q, size_t from, size_t to);
+/* a cell with another value than it holds; 0 where it holds this one */
+int set_cell(uint8_t *store, size_t r, size_t f, unsigned value);
+/* the value, with r and q exchanged */
+unsigned renamed(unsigned value, unsigned r, unsigned q);
+
+/* single bytes and fields */
+DAMAGE(one_byte);
+DAMAGE(one_bit);
+DAMAGE(one_field);
+DAMAGE(header_field);
+DAMAGE(smaller_capacity);
+DAMAGE(unused_cells);
+DAMAGE(bytes_beyond);
+DAMAGE(length_cut);
+
+/* what is free holds something */
+DAMAGE(something_in_a_free_row);
+DAMAGE(a_former_row_left);
+DAMAGE(a_letter_after_the_last);
+DAMAGE(a_letter_in_a_root);
+
+/* links, edges and ends that lead elsewhere */
+DAMAGE(link_redirected);
+DAMAGE(edge_redirected);
+DAMAGE(edges_exchanged);
+DAMAGE(inner_redirected);
+DAMAGE(end_redirected);
+DAMAGE(ends_exchanged);
+
+/* rows under other numbers */
+DAMAGE(rows_renamed);
+DAMAGE(renamed_in_the_table_only);
+DAMAGE(rows_exchanged);
+
+/* the sparse set */
+DAMAGE(order_permuted);
+DAMAGE(order_without_rank);
+DAMAGE(rank_without_order);
+DAMAGE(used_listed_as_free);
+
+/* rows too many, too few, or of another record */
+DAMAGE(row_grafted);
+DAMAGE(row_pruned);
+DAMAGE(leaf_grafted_elsewhere);
+DAMAGE(two_rows_for_one);
+
+/* the letters */
+DAMAGE(one_letter);
+DAMAGE(letters_reversed);
+DAMAGE(reversed_with_its_ends);
+DAMAGE(letters_renamed);
+DAMAGE(letter_renamed_to_n);
+DAMAGE(letter_joined_by_hand);
+
+#endif
