@@ -1,6 +1,5 @@
 /* The judge: what mirror_fasta must answer follows from the second reading and the size of the output buffer alone. */
 #include "fasta_check.h"
-#include "front.h"
 #include "guard.h"
 #include "mirror.h"
 #include <ctype.h>
@@ -25,21 +24,15 @@ static void fail(const char *what, const uint8_t *text, size_t length, size_t ro
     exit(1);
 }
 
-/* The only place that knows the guard pages: a buffer that ends at one, or begins after one. */
-static uint8_t *lent(int front, int slot, size_t n)
-{
-    return front ? front_room(slot, n) : guard_room(slot, n);
-}
-
 /* what the output holds before a call: no letters */
 static uint8_t held(size_t i)
 {
     return (uint8_t)(128 + i % 101);
 }
 
-static void one_call(const uint8_t *text, size_t length, const second_reading *r, size_t room, int front)
+static void one_call(const uint8_t *text, size_t length, const second_reading *r, size_t room)
 {
-    uint8_t *in = lent(front, 0, length), *out = lent(front, 1, room);
+    uint8_t *in = guard_room(0, length), *out = guard_room(1, room);
     uint64_t good = (uint64_t)r->identifier << 32 | (uint64_t)r->count << 48;
     uint64_t wanted = r->number != 0 ? r->number : room < r->count ? MIRROR_NO_ROOM : good;
     size_t written = wanted == good ? r->count : 0;
@@ -60,11 +53,12 @@ static void one_call(const uint8_t *text, size_t length, const second_reading *r
 void fasta_check(const uint8_t *text, size_t length)
 {
     second_reading r = second_read(text, length);
-    for (int front = 0; front < 2; front++) {
-        one_call(text, length, &r, 0, front);
-        if (r.count > 1) one_call(text, length, &r, r.count - 1, front);
-        if (r.count > 0) one_call(text, length, &r, r.count, front);
-        one_call(text, length, &r, r.count + 1, front);
+    for (int place = GUARD_AFTER; place <= GUARD_BEFORE; place++) {
+        guard_at((guard_place)place);
+        one_call(text, length, &r, 0);
+        if (r.count > 1) one_call(text, length, &r, r.count - 1);
+        if (r.count > 0) one_call(text, length, &r, r.count);
+        one_call(text, length, &r, r.count + 1);
     }
 }
 
