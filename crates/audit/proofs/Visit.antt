@@ -26,11 +26,11 @@ use Rattle.palindromes.proofs.Lists.{either-true, left-is, right-is}
 use Rattle.palindromes.proofs.Words.{suffix-length, suffix-stands, suffix-append, suffix-trans, suffix-snoc-back, prefix-stands, stands-of-empty}
 use Rattle.palindromes.proofs.Longest.{longest-suffix, longest-prefix-snoc, longest-empty}
 use Rattle.palindromes.proofs.Growth.{link-of-letter, link-of-framed, link-stood, around-injective}
-use Rattle.palindromes.proofs.Places.{stands-true, stands-is}
+use Rattle.palindromes.proofs.Places.{stands-true, stands-is, stands-empty}
 use Rattle.palindromes.proofs.Palindromes.{count-empty, count-snoc, count-length}
 use Rattle.palindromes.proofs.Across.{whole-at, whole-test}
 use Rattle.eertree.specs.Covers.{NodeOf, Covers, withUsed}
-use Rattle.eertree.proofs.Covers.{around-not-empty, stands-empty}
+use Rattle.eertree.proofs.Covers.{around-not-empty}
 use Rattle.eertree.proofs.Rows.{reachOf, reach-length, imaginary-row, row-high}
 use Rattle.eertree.proofs.Nodes.{root-zero, root-one, node-from-step, node-from}
 use Rattle.eertree.proofs.Replay.{Fits, step-there, read-none, read-old, read-fresh, read-new}

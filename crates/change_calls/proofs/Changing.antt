@@ -20,7 +20,6 @@ use Rattle.updates.specs.Rows.{rowOf, freeRow}
 use Rattle.updates.specs.Opening.{opened}
 use Rattle.updates.specs.Addition.{longestAfter, bringsIn, rowAfter, afterAddition}
 use Rattle.updates.specs.Removal.{longestBefore, takesOut, afterRemoval}
-use Rattle.updates.proofs.Letters.{letter-byte}
 use Rattle.updates.proofs.Rows.{end-row, end-small, free-row, row-small}
 use Rattle.outcome.specs.declared.answers.Added.{Added}
 use Rattle.outcome.specs.declared.answers.Removed.{Removed}
@@ -86,9 +85,6 @@ addable e c b n v z =
     space : Good b → isLetter c ≡ true → refusal (ruleOf b) (viewIn b nothing) (add e c) ≡ 0 → (t : Bool) → leb (capacityIn b) (sizeIn b) ≡ t → sizeIn b < capacityIn b
     space g l k true x = absurd (omega (arith, add-full b nothing e c l (omega (arith, leb-true (capacityIn b) (sizeIn b) x, letters-length (g .sized)))))
     space g l k false x = leb-false (capacityIn b) (sizeIn b) x
-
-pub letter-small : (c : ℕ) → isLetter c ≡ true → c < 256
-letter-small c h = letter-byte c h
 
 -- the row of what an addition answers fits its two bytes
 pub added-fits : (e : End) (c : ℕ) (b : Word) (a : Added) → Addable e c b → a ≡ addedOf (bringsIn e c b) (freeRow b) → addedReply a .row < 65536

@@ -21,11 +21,10 @@ use Rattle.palindromes.specs.End.{End, atLeft, atRight, other, added}
 use Rattle.palindromes.specs.Node.{Node, imaginary, spelt, lengthOf, linkOf, innerOf, around}
 use Rattle.palindromes.proofs.Tests.{not-true-false, false-not-true, decided}
 use Rattle.palindromes.proofs.Words.{suffix-append, suffix-trans, suffix-snoc-back, suffix-stands}
-use Rattle.palindromes.proofs.Places.{stands-true, stands-is}
+use Rattle.palindromes.proofs.Places.{stands-true, stands-is, stands-empty}
 use Rattle.palindromes.proofs.Longest.{longest-suffix}
 use Rattle.palindromes.proofs.Growth.{link-of-framed, link-of-letter, link-stood, inner-around, letter-around}
 use Rattle.eertree.specs.Covers.{NodeOf}
-use Rattle.eertree.proofs.Covers.{stands-empty}
 use Rattle.eertree.proofs.Rows.{reachOf, row-reach-most, imaginary-row}
 use Rattle.store.specs.Layout.{cell, capacityIn, sizeIn, countIn, readingIn, endRow, linkIn, edgeIn, orderIn, usedIn, lettersAt, lettersIn}
 use Rattle.store.specs.Good.{ruleIn, ruleOf, nodeIn, Good}

@@ -18,9 +18,8 @@ use Rattle.palindromes.specs.Record.{longestSuffix}
 use Rattle.palindromes.specs.End.{End, other, removed, letterAt, longestAt}
 use Rattle.palindromes.specs.Node.{spelt, lengthOf}
 use Rattle.palindromes.proofs.Tests.{false-not-true}
-use Rattle.palindromes.proofs.Places.{stands-is}
+use Rattle.palindromes.proofs.Places.{stands-is, stands-empty}
 use Rattle.palindromes.proofs.NewIn.{longest-at}
-use Rattle.eertree.proofs.Covers.{stands-empty}
 use Rattle.eertree.proofs.Rows.{row-high}
 use Rattle.store.specs.Layout.{capacityIn, sizeIn, countIn, readingIn, endRow, lengthIn, linkIn, innerIn, outerIn, orderIn, rankIn, usedIn, lettersAt, lettersIn}
 use Rattle.store.specs.Good.{ruleOf, nodeIn, Good}

@@ -5,7 +5,7 @@
 use Prim.Native.Nat.{ℕ}
 use mathlib.Core.Path.{_≡_, refl, sym, _∙_, subst}
 use mathlib.Core.Bool.{true}
-use mathlib.Core.Logic.{_↔_, Iff·symm}
+use mathlib.Core.Logic.{_↔_}
 use mathlib.Core.List.{[], _∷_, _++_, cons-ne-nil}
 use Rattle.palindromes.specs.Word.{Word, member}
 use Rattle.palindromes.specs.Palindrome.{SelfInverse, mirror, Symmetric}
@@ -15,6 +15,7 @@ use Rattle.palindromes.specs.Node.{Node, imaginary, spelt, around, isNode}
 use Rattle.palindromes.specs.Eertree.{Table, Shows}
 use Rattle.palindromes.proofs.Tests.{not-true-false, false-not-true}
 use Rattle.palindromes.proofs.Mirror.{mirror-empty, stands-in-mirror}
+use Rattle.palindromes.proofs.Places.{stands-empty}
 use Rattle.palindromes.proofs.Palindromes.{palindromes-true, palindromes-is}
 use Rattle.eertree.specs.Covers.{NodeOf, Covers, EdgesEnd}
 
@@ -27,10 +28,6 @@ pub around-not-empty : (σ : ℕ → ℕ) (c : ℕ) (v : Node) → around σ c v
 unfolding around
 around-not-empty σ c imaginary e = cons-ne-nil c [] e
 around-not-empty σ c (spelt w) e = cons-ne-nil (σ c) (w ++ (c ∷ [])) e
-
--- the empty word stands everywhere
-pub stands-empty : (s : Word) → Stands [] s
-stands-empty s = record { before = []; after = s; whole = refl }
 
 module _ (σ : ℕ → ℕ) (s : Word) where
   -- ---- the test and the proposition
@@ -160,12 +157,3 @@ module _ (σ : ℕ → ℕ) (inv : SelfInverse σ) where
   -- so a table covers a record exactly if it covers the record's mirror: the left end of the one is the right end of the other
   pub covers-mirror : {s : Word} {T : Table} {node : ℕ → Node} → Covers σ s T node → Covers σ (mirror σ s) T node
   covers-mirror {s} h = covers-same (same-mirror s) h
-
-  pub covers-unmirror : {T : Table} {node : ℕ → Node} (s : Word) → Covers σ (mirror σ s) T node → Covers σ s T node
-  covers-unmirror s h = covers-same (λ w m. Iff·symm (same-mirror s w m)) h
-
-  pub edges-end-mirror : (s : Word) (T : Table) (node : ℕ → Node) → EdgesEnd σ s T node → EdgesEnd σ (mirror σ s) T node
-  edges-end-mirror s T node h = edges-end-same σ T node (same-mirror s) h
-
-  pub edges-end-unmirror : (s : Word) (T : Table) (node : ℕ → Node) → EdgesEnd σ (mirror σ s) T node → EdgesEnd σ s T node
-  edges-end-unmirror s T node h = edges-end-same σ T node (λ w m. Iff·symm (same-mirror s w m)) h

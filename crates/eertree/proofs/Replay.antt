@@ -16,8 +16,9 @@ use Rattle.palindromes.proofs.Tests.{false-not-true}
 use Rattle.palindromes.proofs.Words.{suffix-stands, stands-trans}
 use Rattle.palindromes.proofs.Longest.{longest-suffix}
 use Rattle.palindromes.proofs.Growth.{Walk, Faces, candidate-start, walk-link}
+use Rattle.palindromes.proofs.Places.{stands-empty}
 use Rattle.eertree.specs.Covers.{withUsed, NodeOf, Covers}
-use Rattle.eertree.proofs.Covers.{covers-same, stands-empty}
+use Rattle.eertree.proofs.Covers.{covers-same}
 use Rattle.eertree.proofs.Grow.{Hung, same-snoc, one-more-snoc, grow-new}
 
 -- row q says what is right of the word around row u by c

@@ -16,8 +16,8 @@ use Rattle.palindromes.specs.Eertree.{Table}
 use Rattle.palindromes.proofs.Tests.{both-true, both-are, decided, false-not-true}
 use Rattle.palindromes.proofs.Longest.{longest-suffix}
 use Rattle.palindromes.proofs.Growth.{link-stands, inner-of, around-injective}
+use Rattle.palindromes.proofs.Places.{stands-empty}
 use Rattle.eertree.specs.Covers.{NodeOf, Covers, EdgesEnd}
-use Rattle.eertree.proofs.Covers.{stands-empty}
 use Rattle.eertree.proofs.Rows.{reachOf, row-high, link-falls, inner-falls}
 use Rattle.eertree.proofs.Grow.{OneMore, node-old, none-around}
 

@@ -2,8 +2,8 @@
 -- An answer depends on the capacity only through the test whether the record is full, which changes at most once as the capacity grows. So a key that is
 -- right at the least and at the greatest capacity of its line is right at all between, and the two ends are computed, for the whole table at once.
 -- Assumes nothing.
-use Prim.Native.Nat.{ℕ, _≤_, _<_}
-use mathlib.Core.Path.{_≡_, refl, sym, ap, _∙_}
+use Prim.Native.Nat.{ℕ, _≤_}
+use mathlib.Core.Path.{_≡_, refl, sym, _∙_}
 use mathlib.Core.Bool.{Bool, true, false}
 use mathlib.Core.Logic.{_⊎_, inl, inr}
 use mathlib.Core.List.{List, [], _∷_, map}

@@ -1,7 +1,7 @@
 -- DEFINITIONS. A sitting with a known key: letters, capacities, a question or a change, and what the definitions answer. Nothing here is proved.
 use Prim.Native.Nat.{ℕ, _≤_}
 use mathlib.Core.Path.{_≡_}
-use mathlib.Core.Bool.{Bool, true, cond}
+use mathlib.Core.Bool.{true, cond}
 use mathlib.Core.List.{List}
 use mathlib.Core.Option.{none}
 use Prim.Native.Nat.{zero, suc}
@@ -10,7 +10,7 @@ use Rattle.palindromes.specs.Palindrome.{plain}
 use Rattle.palindromes.specs.Record.{palindromes, count, longestLength, longestPlace}
 use Rattle.palindromes.specs.End.{End, added, removed, letterAt, newIn}
 use Rattle.palindromes.specs.Node.{Node, spelt, linkOf, innerOf, isNode}
-use Rattle.palindromes.specs.Refusal.{Call, add, remove, askCount, askLongest, find, View, storeSize, refusal}
+use Rattle.palindromes.specs.Refusal.{add, remove, askCount, askLongest, find, View, storeSize, refusal}
 
 -- what a sitting asks; a row is named by the repeat that it holds, since the letters do not decide its number
 pub data Ask : Type 0 where

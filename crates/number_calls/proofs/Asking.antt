@@ -1,7 +1,7 @@
 -- What the questions that answer numbers promise, on plain values. Rests on `Refusals` and `Promises` of the outcomes.
-use Prim.Native.Nat.{ℕ, zero, suc, _+_, _-_, _≤_, _<_}
-use mathlib.Core.Path.{_≡_, refl, sym, ap, ap₂, _∙_, subst}
-use mathlib.Core.Bool.{Bool, true, false, cond}
+use Prim.Native.Nat.{ℕ, zero, suc, _-_, _≤_, _<_}
+use mathlib.Core.Path.{_≡_, refl, sym, ap, _∙_}
+use mathlib.Core.Bool.{Bool, true, false}
 use mathlib.Core.List.{List, [], _∷_}
 use native.Mathlib.Omega.{arith}
 use lib.Dec.{leb}
@@ -14,24 +14,23 @@ use Rattle.palindromes.specs.Record.{palindromes, count, least, longestLength, 
 use Rattle.palindromes.specs.End.{End, longestAt}
 use Rattle.palindromes.specs.Node.{Node, spelt, lengthOf, linkOf, innerOf}
 use Rattle.palindromes.specs.Refusal.{Call, askLength, askCount, askLongest, askLongestAt, askLetter, askRow, faults, refusal}
-use Rattle.palindromes.proofs.Tests.{not-true-false}
 use Rattle.palindromes.proofs.Words.{no-letters}
 use Rattle.palindromes.proofs.Order.{longest-length-fits, longest-place-is}
 use Rattle.palindromes.proofs.Palindromes.{count-length}
 use Rattle.eertree.proofs.Rows.{reachOf, reach-length, row-reach-most}
-use Rattle.store.specs.Layout.{capacityIn, sizeIn, usedIn, lettersIn}
+use Rattle.store.specs.Layout.{sizeIn, usedIn, lettersIn}
 use Rattle.store.specs.Good.{ruleOf, nodeIn, Good}
 use Rattle.store.specs.Lengths.{Stored}
 use Rattle.store.proofs.Sizes.{letters-length}
 use Rattle.updates.specs.Rows.{rowOf}
 use Rattle.updates.specs.Removal.{longestBefore}
 use Rattle.updates.proofs.Rows.{row-of-small, covers}
-use Rattle.outcome.specs.Reply.{Reply, packed, accepted, refusedWith, twosComplement}
-use Rattle.outcome.specs.Outcome.{viewIn, outcome, acceptedOutcome, changed}
-use Rattle.outcome.specs.Promise.{nothing, Left, Promise}
+use Rattle.outcome.specs.Reply.{packed, accepted, twosComplement}
+use Rattle.outcome.specs.Outcome.{viewIn, acceptedOutcome, changed}
+use Rattle.outcome.specs.Promise.{nothing, Promise}
 use Rattle.outcome.specs.Verdict.{Verdict, damaged, judged}
 use Rattle.outcome.proofs.Refusals.{length-accepted, count-accepted, longest-none, longest-accepted, longest-at-none, letter-outside, letter-accepted, row-accepted, row-free}
-use Rattle.outcome.proofs.Promises.{by-verdict, cleared, carried}
+use Rattle.outcome.proofs.Promises.{cleared, carried}
 
 module _ (b : Word) (g : Good b) where
   -- the letters are at most 1,024

@@ -140,10 +140,6 @@ module _ (b : Word) (l : Lent) where
   unfolding refusal faults viewIn firstFault fault isEmpty
   longest-at-none e h = rw h
 
-  pub longest-at-accepted : (e : End) → (lettersIn b ≡ [] → ⊥) → refusal (ruleOf b) (viewIn b l) (askLongestAt e) ≡ 0
-  unfolding refusal faults viewIn firstFault fault
-  longest-at-accepted e h = rw (non-empty-is (lettersIn b) h)
-
   pub letter-outside : (i : ℕ) → length (lettersIn b) ≤ i → refusal (ruleOf b) (viewIn b l) (askLetter i) ≡ 7
   unfolding refusal faults viewIn firstFault fault
   letter-outside i h = rw (le-leb (length (lettersIn b)) i h)

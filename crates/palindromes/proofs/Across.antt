@@ -1,23 +1,22 @@
 -- What a change at one end does to the longest palindrome at the other: it is a new one only if that is the whole record, and it goes only if it was the
 -- whole record, and then its link takes its place. Rests on `Longest` and the mirror.
-use Prim.Native.Nat.{ℕ, suc}
+use Prim.Native.Nat.{ℕ}
 use mathlib.Core.Path.{_≡_, refl, sym, ap, _∙_, subst}
-use mathlib.Core.Bool.{Bool, true, false, cond}
-use mathlib.Core.Logic.{⊎-elim}
-use mathlib.Core.List.{[], _∷_, _++_, tail-eq-of-cons-eq}
+use mathlib.Core.Bool.{true, cond}
+use mathlib.Core.List.{[], _∷_, _++_}
 use native.Mathlib.Omega.{arith}
 use lib.Dec.{eqb}
 use lib.ListN.{length}
 use borrow.Author.Tests.{eq-eqb, eqb-true}
 use Rattle.palindromes.specs.Word.{Word}
 use Rattle.palindromes.specs.Palindrome.{SelfInverse, mirror, Symmetric, isSymmetric}
-use Rattle.palindromes.specs.Record.{longestSuffix, longestPrefix}
-use Rattle.palindromes.specs.End.{End, atLeft, atRight, other, added, removed, longestAt}
+use Rattle.palindromes.specs.Record.{longestSuffix}
+use Rattle.palindromes.specs.End.{End, atLeft, atRight, other, added, longestAt}
 use Rattle.palindromes.specs.Node.{spelt, linkOf}
 use Rattle.palindromes.proofs.Tests.{symmetric-true, symmetric-is}
 use Rattle.palindromes.proofs.Lists.{same-test}
-use Rattle.palindromes.proofs.Words.{suffix-refl, suffix-full, suffix-length, by-end, removed-added, added-not-empty}
-use Rattle.palindromes.proofs.Mirror.{mirror-length, mirror-snoc, mirror-mirror}
+use Rattle.palindromes.proofs.Words.{suffix-refl, suffix-full, suffix-length}
+use Rattle.palindromes.proofs.Mirror.{mirror-length, mirror-snoc}
 use Rattle.palindromes.proofs.Longest.{longest-suffix, longest-prefix, longest-prefix-snoc, longest-suffix-cons, symmetric-of-mirror}
 
 module _ (σ : ℕ → ℕ) where

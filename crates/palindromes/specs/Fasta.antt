@@ -3,7 +3,7 @@ use Prim.Native.Nat.{ℕ, zero, suc}
 use mathlib.Core.Bool.{Bool, true, false, cond, _&&_, _||_}
 use mathlib.Core.List.{[], _∷_}
 use lib.Dec.{leb, eqb}
-use lib.ListN.{length, drop}
+use lib.ListN.{drop}
 use Rattle.palindromes.specs.Word.{Word, isLetter}
 use Rattle.palindromes.specs.Bed.{isIdentifierByte}
 

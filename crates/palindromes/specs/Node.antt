@@ -1,7 +1,7 @@
 -- DEFINITIONS. The nodes of an eertree, which document 01 calls rows, and what each says, row numbers apart. Nothing here is proved.
 use Prim.Native.Nat.{ℕ, zero}
 use mathlib.Core.Bool.{Bool, true}
-use mathlib.Core.List.{List, [], _∷_, _++_}
+use mathlib.Core.List.{[], _∷_, _++_}
 use lib.ListN.{length}
 use lib.IntN.{ℤ, pos, negsuc}
 use Rattle.palindromes.specs.Word.{Word, member}

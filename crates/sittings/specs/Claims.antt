@@ -1,6 +1,6 @@
 -- DEFINITIONS. What is claimed of every list of calls: 01 "Lists of calls, for demand 3", the three points with their negative halves. Rows and fields
 -- are spoken of only through what find and the row question answer. Nothing here is proved.
-use Prim.Native.Nat.{ℕ, zero, suc, _+_, _≤_, _<_}
+use Prim.Native.Nat.{ℕ, _+_, _≤_}
 use mathlib.Core.Path.{_≡_}
 use mathlib.Core.Bool.{Bool, true, false, _&&_}
 use mathlib.Core.List.{List, [], _∷_}

@@ -1,11 +1,11 @@
 -- DEFINITIONS. Lists of calls from an opening, the letters that follow from their arguments alone, and the rows that follow from their arguments and
 -- replies alone: 01 "Lists of calls, for demand 3". Nothing here is proved.
-use Prim.Native.Nat.{ℕ, zero, _<_}
+use Prim.Native.Nat.{ℕ, zero}
 use mathlib.Core.Path.{_≡_}
-use mathlib.Core.Bool.{Bool, true, false, cond, _&&_}
+use mathlib.Core.Bool.{cond, _&&_}
 use mathlib.Core.List.{List, [], _∷_}
 use lib.Dec.{ltb}
-use lib.ListN.{length, getD}
+use lib.ListN.{length}
 use Rattle.palindromes.specs.Word.{Word, isLetter, sameWord}
 use Rattle.palindromes.specs.Palindrome.{plain}
 use Rattle.palindromes.specs.End.{added, removed, longestAt}

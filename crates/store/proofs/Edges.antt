@@ -2,10 +2,10 @@
 -- Rests on the tests of numbers alone.
 use Prim.Native.Nat.{ℕ, _≤_, _<_}
 use native.Mathlib.Omega.{arith}
-use mathlib.Core.Path.{_≡_, refl, sym, ap, ap₂, _∙_}
-use mathlib.Core.Bool.{Bool, true, false, cond, _&&_, _||_, true≢false}
-use lib.Dec.{leb, ltb, eqb}
-use borrow.Author.Tests.{eqb-true, eqb-false, eq-eqb, ne-eqb, le-leb, lt-ltb}
+use mathlib.Core.Path.{_≡_, refl, sym, ap, _∙_}
+use mathlib.Core.Bool.{Bool, true, false, cond, _||_, true≢false}
+use lib.Dec.{eqb}
+use borrow.Author.Tests.{eqb-true}
 use Rattle.palindromes.specs.Word.{isLetter}
 use Rattle.store.specs.Layout.{edgeCell}
 
@@ -29,16 +29,6 @@ edge-low c = edge-range c .0
 pub edge-high : (c : ℕ) → edgeCell c < 8
 edge-high c = edge-range c .1
 
--- the test of another cell against an edge's fails: for a numeral k the condition computes
-pub number-edge : (k c : ℕ) → (leb 4 k && ltb k 8) ≡ false → eqb k (edgeCell c) ≡ false
-number-edge k c outside = ne-eqb k (edgeCell c) (λ e. true≢false (sym (both e) ∙ outside))
-  where
-    both : k ≡ edgeCell c → (leb 4 k && ltb k 8) ≡ true
-    both e = ap₂ _&&_ (le-leb 4 k (omega (arith, edge-low c))) (lt-ltb k 8 (omega (arith, edge-high c)))
-
-pub edge-number : (k c : ℕ) → (leb 4 k && ltb k 8) ≡ false → eqb (edgeCell c) k ≡ false
-edge-number k c outside = ne-eqb (edgeCell c) k (λ e. eqb-false k (edgeCell c) (number-edge k c outside) (sym e))
-
 -- ---- whose they are
 
 -- the letter of an edge's cell
@@ -60,11 +50,3 @@ edge-letter c h = of (eqb c 65) (eqb c 67) (eqb c 71) (eqb c 84) refl refl refl 
 -- two letters with one cell are one letter
 pub edge-same : (c d : ℕ) → isLetter c ≡ true → isLetter d ≡ true → edgeCell c ≡ edgeCell d → c ≡ d
 edge-same c d p q e = sym (edge-letter c p) ∙ ap edgeLetter e ∙ edge-letter d q
-
--- so the test of two letters' cells is the test of the letters
-pub edge-test : (c d : ℕ) → isLetter c ≡ true → isLetter d ≡ true → eqb (edgeCell c) (edgeCell d) ≡ eqb c d
-edge-test c d p q = of (eqb c d) refl
-  where
-    of : (s : Bool) → eqb c d ≡ s → eqb (edgeCell c) (edgeCell d) ≡ s
-    of true e = eq-eqb (edgeCell c) (edgeCell d) (ap edgeCell (eqb-true c d e))
-    of false e = ne-eqb (edgeCell c) (edgeCell d) (λ same. eqb-false c d e (edge-same c d p q same))

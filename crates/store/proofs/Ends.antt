@@ -1,6 +1,6 @@
 -- The letters that stand at a place of the bytes, seen from an end: the letter there, the letters left without it, the bytes after a letter has joined or left, and
 -- the letters as a reader at the left end meets them. Rests on the laws of a written part and on the laws of the two ends of a word.
-use Prim.Native.Nat.{ℕ, zero, suc, _+_, _-_, _≤_, _<_}
+use Prim.Native.Nat.{ℕ, suc, _+_, _-_, _≤_, _<_}
 use native.Mathlib.Nat.{eq-or-lt-of-le, le-of-suc-le-suc}
 use native.Mathlib.Numerals.{add-one}
 use native.Mathlib.Omega.{arith}

@@ -1,6 +1,6 @@
 -- A part of a list that is written in one go, `sets l at w`: what it holds afterwards, what stays as it was, and how two such writes make one. These are the laws by
 -- which the loops that move letters, and all who write letters, are understood. Rests on the library's laws of `set`, `take`, `drop` and `sets`.
-use Prim.Native.Nat.{ℕ, zero, suc, _+_, _-_, _≤_, _<_}
+use Prim.Native.Nat.{ℕ, suc, _+_, _-_, _≤_, _<_}
 use native.Mathlib.Nat.{add-zero}
 use native.Mathlib.Numerals.{add-one}
 use native.Mathlib.Omega.{arith}
@@ -9,7 +9,7 @@ use mathlib.Core.Logic.{_≢_}
 use mathlib.Core.List.{[], _∷_, _++_, append-assoc}
 use lib.ListN.{length, take, drop, getD, set, take-append-drop}
 use lib.ListN.{length-drop}
-use lib.Seq.{sets, length-sets, ext-getD, sets-eq, set-comm, getD-set-other, getD-take, getD-drop, take-add, take-suc, drop-cons, take-at, drop-at, length-take-le}
+use lib.Seq.{sets, length-sets, ext-getD, sets-eq, set-comm, getD-set-other, getD-drop, take-add, take-suc, drop-cons, take-at, drop-at, length-take-le}
 use Rattle.palindromes.specs.Word.{Word}
 
 -- ---- what a write leaves

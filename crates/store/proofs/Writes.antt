@@ -136,8 +136,3 @@ cell-sets b at w r f inside before =
     omega arith
 
 -- ---- what a cell can hold
-
--- two bytes make a number below 65,536
-pub cell-small : (b : Word) (r f : ℕ) → ((i : ℕ) → getD b i 0 < 256) → cell b r f < 65536
-unfolding cell
-cell-small b r f byte = omega (arith, byte (cellAt r f), byte (cellAt r f + 1))

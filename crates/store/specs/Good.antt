@@ -1,7 +1,7 @@
 -- DEFINITIONS. When a store is good: it shows a record and the eertree of the record's letters. Nothing here is proved.
 use Prim.Native.Nat.{ℕ, _+_, _≤_, _<_}
 use mathlib.Core.Path.{_≡_}
-use mathlib.Core.Bool.{Bool, true, false}
+use mathlib.Core.Bool.{true, false}
 use lib.ListN.{length, getD}
 use Rattle.palindromes.specs.Word.{Word, allLetters}
 use Rattle.palindromes.specs.Record.{count}

@@ -1,11 +1,9 @@
 -- DEFINITIONS. The layout of a store: a matrix of cells of two bytes each, low byte first, twelve to a row, then the letters, a byte each.
 -- Rows are numbered from 0 to capacity + 1. Nothing here is proved.
-use Prim.Native.Nat.{ℕ, zero, suc, _+_, _*_, _/_, _%_, _-_}
-use mathlib.Core.Bool.{Bool, true, false, cond, _&&_, _||_}
-use mathlib.Core.List.{List, [], _∷_}
+use Prim.Native.Nat.{ℕ, _+_, _*_, _/_, _%_}
+use mathlib.Core.Bool.{Bool, cond, _&&_, _||_}
 use lib.Dec.{eqb, ltb}
-use lib.ListN.{length, getD, set, take, drop}
-use lib.Seq.{sets}
+use lib.ListN.{getD, set, take, drop}
 use lib.IntN.{ℤ, pos, predℤ}
 use Rattle.palindromes.specs.Word.{Word}
 use Rattle.palindromes.specs.End.{End, atLeft, atRight}

@@ -17,11 +17,10 @@ use Rattle.palindromes.specs.Node.{Node, imaginary, spelt, linkOf, innerOf, spe
 use Rattle.palindromes.proofs.Tests.{both-are}
 use Rattle.palindromes.proofs.Words.{stands-length, added-length}
 use Rattle.palindromes.proofs.Longest.{longest-suffix}
-use Rattle.palindromes.proofs.Places.{stands-true, stands-false}
+use Rattle.palindromes.proofs.Places.{stands-true, stands-false, stands-empty}
 use Rattle.palindromes.proofs.NewIn.{longest-at}
 use Rattle.palindromes.proofs.Growth.{inner-of, link-stands, around-inner}
 use Rattle.eertree.specs.Covers.{NodeOf}
-use Rattle.eertree.proofs.Covers.{stands-empty}
 use Rattle.eertree.proofs.Rows.{reachOf, link-reach, inner-reach}
 use Rattle.eertree.proofs.Grow.{OneMore, one-more-added}
 use Rattle.store.specs.Layout.{capacityIn, sizeIn, readingIn, usedIn, lettersIn}

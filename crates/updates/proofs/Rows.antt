@@ -243,13 +243,6 @@ module _ {b : Word} (g : Good b) where
   pub link-small : (r : ℕ) → usedIn b r ≡ true → linkIn b r < 65536
   link-small r u = used-small (linkIn b r) (covers .link-is r u .0)
 
-  -- a place of the order and a rank
-  pub order-small : (i : ℕ) → i < capacityIn b → orderIn b i < 65536
-  order-small i h = row-small (orderIn b i) (g .order i h .high)
-
-  pub rank-small : (r : ℕ) → 2 ≤ r → r < capacityIn b + 2 → rankIn b r < 65536
-  rank-small r l h = omega (arith, g .sized .at-most, g .rank r l h .high)
-
   -- the number of letters and of repeats, and one more
   pub size-small : sizeIn b + 1 < 65536
   size-small = omega (arith, g .sized .at-most, g .sized .letters-fit)

@@ -11,8 +11,9 @@ use Rattle.palindromes.specs.Node.{Node, imaginary, spelt, lengthOf, linkOf, in
 use Rattle.palindromes.specs.Eertree.{Table}
 use Rattle.palindromes.proofs.Words.{stands-of-empty}
 use Rattle.palindromes.proofs.Mirror.{mirror-empty}
+use Rattle.palindromes.proofs.Places.{stands-empty}
 use Rattle.eertree.specs.Covers.{NodeOf, Covers, EdgesEnd}
-use Rattle.eertree.proofs.Covers.{around-not-empty, stands-empty}
+use Rattle.eertree.proofs.Covers.{around-not-empty}
 
 -- the roots alone are in use, and lead nowhere
 pub record Roots (T : Table) (node : ℕ → Node) : Type 0 where

@@ -9,9 +9,9 @@ use mathlib.Core.Bool.{Bool, true, false}
 use mathlib.Core.Logic.{_≢_}
 use borrow.Author.Tests.{ne-eqb}
 use Rattle.palindromes.specs.Word.{Word, isLetter}
-use Rattle.palindromes.specs.End.{End, removed, letterAt}
+use Rattle.palindromes.specs.End.{End, removed}
 use Rattle.palindromes.proofs.Tests.{false-not-true}
-use Rattle.palindromes.proofs.Words.{removed-added, letter-added}
+use Rattle.palindromes.proofs.Words.{removed-added}
 use Rattle.store.specs.Layout.{capacityIn, sizeIn, countIn, endRow, orderIn, usedIn, lettersIn}
 use Rattle.store.specs.Good.{ruleIn, Good}
 use Rattle.updates.specs.Rows.{freeRow}
@@ -33,10 +33,6 @@ module _ (e : End) (c : ℕ) {b : Word} (g : Good b) (letter : isLetter c ≡ tr
   went = removal e (came .good) (omega (arith, came .size))
 
   -- ---- what the removal answers
-
-  -- the letter that was added
-  pub letter-back : letterAt e (lettersIn (afterAddition e c b)) ≡ c
-  letter-back = ap (letterAt e) (came .letters) ∙ letter-added e c (lettersIn b)
 
   left-is : removed e (lettersIn (afterAddition e c b)) ≡ lettersIn b
   left-is = ap (removed e) (came .letters) ∙ removed-added e c (lettersIn b)

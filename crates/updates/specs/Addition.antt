@@ -1,5 +1,5 @@
 -- DEFINITIONS. The bytes after an accepted addition, and what it answers. Nothing here is proved.
-use Prim.Native.Nat.{ℕ, zero, suc, _+_}
+use Prim.Native.Nat.{ℕ, _+_}
 use mathlib.Core.Bool.{Bool, cond, not}
 use mathlib.Core.List.{List, [], _∷_, _++_}
 use lib.Dec.{eqb}
@@ -8,7 +8,7 @@ use lib.Seq.{sets}
 use Rattle.palindromes.specs.Word.{Word}
 use Rattle.palindromes.specs.Place.{stands}
 use Rattle.palindromes.specs.End.{End, other, atRight, added, letterAt, longestAt}
-use Rattle.palindromes.specs.Node.{Node, spelt, lengthOf, linkOf, innerOf}
+use Rattle.palindromes.specs.Node.{spelt, lengthOf, linkOf, innerOf}
 use Rattle.store.specs.Layout.{capacityIn, sizeIn, countIn, endCell, endRow, edgeCell, lettersAt, lettersIn}
 use Rattle.store.specs.Good.{ruleOf}
 use Rattle.store.specs.Writes.{Write, write, writes, rowWrites}

@@ -8,7 +8,7 @@ use native.Mathlib.Omega.{arith}
 use mathlib.Core.Path.{_≡_, refl, sym, ap, _∙_, subst}
 use mathlib.Core.Bool.{Bool, true, false, _&&_}
 use mathlib.Core.Logic.{_⊎_, inl, inr, ⊎-elim, _↔_}
-use mathlib.Core.List.{[], _∷_, _++_}
+use mathlib.Core.List.{_∷_}
 use lib.Dec.{leb, eqb}
 use lib.ListN.{length, getD, take}
 use lib.Seq.{length-take-le, getD-take}
@@ -17,10 +17,9 @@ use Rattle.palindromes.specs.Word.{Word}
 use Rattle.palindromes.specs.Palindrome.{SelfInverse}
 use Rattle.palindromes.specs.Place.{Suffix}
 use Rattle.palindromes.specs.Record.{longestSuffix}
-use Rattle.palindromes.specs.Node.{Node, imaginary, spelt, linkOf, around}
+use Rattle.palindromes.specs.Node.{Node, imaginary, spelt, linkOf}
 use Rattle.palindromes.proofs.Tests.{both-true, both-are, false-not-true, decided}
-use Rattle.palindromes.proofs.Words.{suffix-refl, suffix-append, suffix-trans, suffix-snoc-back}
-use Rattle.palindromes.proofs.Longest.{longest-suffix}
+use Rattle.palindromes.proofs.Words.{suffix-refl, suffix-trans}
 use Rattle.palindromes.proofs.Growth.{Walk, Faces, preceded-within, nothing-longest, walk-hit, walk-from-link}
 use Rattle.eertree.specs.Covers.{NodeOf, Covers, withUsed}
 use Rattle.eertree.proofs.Rows.{reachOf, link-reach, row-reach, imaginary-row, link-falls, faces-at, faces-outside}
@@ -33,13 +32,6 @@ use Rattle.walk.specs.declared.Walked.{Walked}
 -- the used rows lie within the store
 abbrev pub RowsFit : Word → (ℕ → Bool) → Type 0
 RowsFit b used = (r : ℕ) → used r ≡ true → 24 * r + 24 ≤ length b
-
--- the word of a row that was found ends what is read, so that from its link the walk for the link of what it grows to can go
-pub found-ends : (σ : ℕ → ℕ) (q : Word) (d : ℕ) (w : Word) → longestSuffix σ (q ++ (d ∷ [])) ≡ around σ d (spelt w) → Suffix w q
-unfolding around
-found-ends σ q d w e =
-    let a : Suffix (σ d ∷ w ++ (d ∷ [])) (q ++ (d ∷ [])) = subst (λ (x : Word). Suffix x (q ++ (d ∷ []))) e (longest-suffix σ (q ++ (d ∷ [])) .suffix) in
-    suffix-trans (suffix-append (σ d ∷ []) w) (suffix-snoc-back {u = σ d ∷ w} d d a .0)
 
 -- ---- one test of the walk
 

@@ -24,7 +24,7 @@ use Rattle.palindromes.proofs.Mirror.{mirror-empty, mirror-cons, mirror-length,
 use Rattle.palindromes.proofs.Longest.{longest-prefix}
 use Rattle.palindromes.proofs.Places.{stands-true, stands-is}
 use Rattle.eertree.specs.Covers.{Covers}
-use Rattle.eertree.proofs.Covers.{covers-mirror, covers-unmirror}
+use Rattle.eertree.proofs.Covers.{covers-mirror}
 use Rattle.store.specs.Writes.{towards}
 use Rattle.store.proofs.Ends.{mirror-at}
 use Rattle.walk.specs.Replay.{letterTowards}
@@ -100,14 +100,8 @@ module _ (σ : ℕ → ℕ) (inv : SelfInverse σ) where
       let f = stands-towards e h in
       same-test (stands w (towards σ e s)) (stands w s) (λ a. stands-is w s (f .1 (stands-true w (towards σ e s) a))) (λ a. stands-is w (towards σ e s) (f .0 (stands-true w s a)))
 
-  -- so a table covers what is read exactly if it covers the record
+  -- so a table that covers the record covers what is read
   pub covers-towards : (e : End) {s : Word} {T : Table} {node : ℕ → Node} → Covers σ s T node → Covers σ (towards σ e s) T node
   unfolding towards
   covers-towards atRight h = h
   covers-towards atLeft h = covers-mirror σ inv h
-
-  -- and back
-  pub covers-from-towards : (e : End) {T : Table} {node : ℕ → Node} (s : Word) → Covers σ (towards σ e s) T node → Covers σ s T node
-  unfolding towards
-  covers-from-towards atRight s h = h
-  covers-from-towards atLeft s h = covers-unmirror σ inv s h

@@ -1,8 +1,9 @@
 -- `change_calls::add_letter` keeps the promise of an addition. Assumes nothing.
 use borrow.Author.Needs.{needs}
 use native.Mathlib.Omega.{arith}
+use Rattle.updates.proofs.Letters.{letter-byte}
 use Rattle.outcome.proofs.Promises.{by-verdict}
-use Rattle.change_calls.proofs.Changing.{addable, letter-small, added-fits, added}
+use Rattle.change_calls.proofs.Changing.{addable, added-fits, added}
 use Rattle.change_calls.proofs.add_letter.Statement.{statement}
 use Rattle.change_calls.proofs.add_letter.Tie as tie
 
@@ -10,7 +11,7 @@ returns : tie.Need-returns
 returns c = by-verdict _ _ _ _ (c .before .before .judge-add .ensures) (c .before .if1 .taken) (c .refuse .ensures)
 
 cast-add : tie.Need-cast-add
-cast-add c = let a = addable _ _ _ _ (c .before .before .judge-add .ensures) (c .before .if1 .left) in omega (arith, letter-small _ (a .letter))
+cast-add c = let a = addable _ _ _ _ (c .before .before .judge-add .ensures) (c .before .if1 .left) in omega (arith, letter-byte _ (a .letter))
 
 add-requires : tie.Need-add-requires
 add-requires c κs = let a = addable _ _ _ _ (c .before .before .judge-add .ensures) (c .before .if1 .left) in (a .good, (a .letter, a .room))

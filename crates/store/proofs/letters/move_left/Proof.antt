@@ -1,5 +1,5 @@
 -- `store::letters::move_left` moves the letters by one place. The loop's invariant: the first k of them have moved. Assumes nothing.
-use Prim.Native.Nat.{_+_, _-_, _≤_}
+use Prim.Native.Nat.{_-_, _≤_}
 use native.Mathlib.Omega.{arith}
 use mathlib.Core.Path.{_≡_, refl}
 use borrow.Author.Needs.{needs}

@@ -1,5 +1,4 @@
 -- `store::rows::clear_row` writes a row of nothing, whose length is stored as 0. Assumes nothing.
-use mathlib.Core.Path.{refl}
 use borrow.Author.Needs.{needs}
 use Rattle.store.proofs.rows.clear_row.Statement.{statement}
 use Rattle.store.proofs.rows.clear_row.Tie as tie
