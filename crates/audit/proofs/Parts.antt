@@ -20,12 +20,6 @@ use Rattle.audit.specs.Parts.{ZeroCells, RootsRight, OrderRight}
 
 -- ---- letters
 
--- a word each of whose letters is one
-pub letters-all : (s : Word) → ((i : ℕ) → i < length s → isLetter (getD s i 0) ≡ true) → allLetters s ≡ true
-unfolding allLetters
-letters-all [] h = refl
-letters-all (x ∷ s) h = both-are (isLetter x) (allLetters s) (h 0 (omega arith)) (letters-all s λ i l. h (suc i) (omega arith))
-
 -- what holds of each of the four letters holds of every letter
 pub letter-cases : (P : ℕ → Type 0) → P 65 → P 67 → P 71 → P 84 → (x : ℕ) → isLetter x ≡ true → P x
 unfolding isLetter

@@ -44,7 +44,7 @@ use Rattle.walk.specs.declared.Walked.{Walked}
 use Rattle.walk.specs.declared.Walked.the-variants.{At, Nothing}
 use Rattle.walk.proofs.Found.{stored-reach, chain, meets-longest, meets-link}
 use Rattle.walk.proofs.Stores.{store-long, rows-fit}
-use Rattle.walk.proofs.Towards.{letter-of}
+use Rattle.alphabet.proofs.Letters.{letter-of}
 use Rattle.updates.proofs.Rows.{covers, used-root, used-is, used-rank, length-row}
 use Rattle.updates.proofs.Start.{Roots, roots-cover}
 use Rattle.audit.specs.Parts.{Ready}

@@ -4,11 +4,12 @@ ghost use mathlib.Core.Path.{_≡_};
 ghost use mathlib.Core.Bool.{true};
 ghost use Prim.Native.Nat.{_+_, _*_, _<_, _≤_};
 ghost use lib.ListN.{length};
-ghost use Rattle.palindromes.specs.Word.{isLetter, allLetters};
+ghost use Rattle.palindromes.specs.Word.{allLetters};
 ghost use Rattle.store.specs.Layout.{capacityIn, lettersIn};
 ghost use Rattle.store.specs.Good.{Sized};
 ghost use Rattle.audit.specs.Decides.{Decides};
 ghost use Rattle.audit.specs.Parts.{HeaderRight, FreePlaces, ZeroCells, RootsRight, PlaceRight, OrderRight};
+use alphabet::is_letter;
 use store::rows::order_of;
 use store::rows::rank_of;
 
@@ -36,16 +37,6 @@ pub fn sized(b: &[u8]) -> bool
         return false;
     }
     true
-}
-
-// Whether a byte is a letter.
-pub fn is_letter(c: u8) -> bool
-    ensures { λ r. ⌜ r ≡ isLetter c ⌝ }
-{
-    match c {
-        b'A' | b'C' | b'G' | b'T' => true,
-        _ => false,
-    }
 }
 
 // Whether every letter is one.

@@ -2,8 +2,8 @@
 // capacity 1,024 is opened and letters are added at its right end, as mirrorlist does.
 ghost use Rattle.bench_fill.specs.Fills.{Fills};
 use changes::opening;
+use alphabet::all_letters;
 use printing::record;
-use text_calls::all_letters;
 
 // Fills a record, and answers how many letters it was given; 0 where it has no room or a byte is no
 // letter, and the store then stays.

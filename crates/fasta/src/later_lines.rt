@@ -7,7 +7,7 @@ ghost use lib.Seq.{sets};
 ghost use Rattle.palindromes.specs.Fasta.{letters, kindOf, readLines};
 ghost use Rattle.fasta.specs.Passes.{kindNamed, tallyAfter, lettersOf};
 use crate::first_line::lf_at;
-use letters::is_letter;
+use alphabet::is_letter;
 
 // What a byte of a later line is.
 pub enum ByteKind {

@@ -20,7 +20,7 @@ use Rattle.updates.specs.Addition.{afterAddition}
 use Rattle.updates.proofs.Opening.{opened-capacity, opened-letters, opened-good}
 use Rattle.store.proofs.Sizes.{letters-length}
 use Rattle.updates.proofs.Added.{addition}
-use Rattle.walk.proofs.Towards.{letter-of}
+use Rattle.alphabet.proofs.Letters.{letter-of}
 use Rattle.printing.specs.Filled.{Filled}
 
 -- a record that was just opened holds no letter

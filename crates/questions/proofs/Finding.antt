@@ -25,7 +25,7 @@ use Rattle.store.specs.Good.{ruleOf, nodeIn, Good}
 use Rattle.store.proofs.Sizes.{rule-inverse, letters-length}
 use Rattle.updates.specs.Rows.{rowOf}
 use Rattle.updates.proofs.Rows.{covers, row-of}
-use Rattle.walk.proofs.Towards.{letter-of}
+use Rattle.alphabet.proofs.Letters.{letter-of}
 
 -- the letter at place j of the piece and the one facing it are partners
 abbrev pub Partners : Word → Word → ℕ → Type 0

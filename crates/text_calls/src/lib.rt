@@ -3,13 +3,12 @@
 // says.
 ghost use mathlib.Core.Path.{_≡_};
 ghost use mathlib.Core.List.{[]};
-ghost use Rattle.palindromes.specs.Word.{allLetters};
 ghost use Rattle.palindromes.specs.Refusal.{spell, find, list};
 ghost use Rattle.outcome.specs.Promise.{nothing, Promise};
 ghost use Rattle.outcome.specs.Verdict.{Verdict};
 ghost use Rattle.text_calls.specs.Lending.{lending};
-use audit::fixed;
 use bed::is_identifier;
+use alphabet::all_letters;
 use outcome::answers::Found;
 use outcome::pack;
 use outcome::refuse;
@@ -44,20 +43,6 @@ pub fn spell_row(store: &[u8], row: u64, out: &mut [u8]) -> u64
         return refuse(number);
     }
     pack(false, 0, spell::spell(store, row as usize, out), 0)
-}
-
-// Whether every byte of a piece is a letter.
-pub fn all_letters(piece: &[u8]) -> bool
-    ensures { λ r. ⌜ r ≡ allLetters (now (piece .entry)) ⌝ }
-{
-    let mut i = 0;
-    while i < piece.len() {
-        if !fixed::is_letter(piece[i]) {
-            return false;
-        }
-        i += 1;
-    }
-    true
 }
 
 // The refusal number of finding a piece, 0 where it can be searched.

@@ -23,18 +23,12 @@ use Rattle.palindromes.proofs.Words.{by-end, removed-added, removed-empty, adde
 use Rattle.palindromes.proofs.Mirror.{mirror-empty, mirror-cons, mirror-length, stands-in-mirror}
 use Rattle.palindromes.proofs.Longest.{longest-prefix}
 use Rattle.palindromes.proofs.Places.{stands-true, stands-is}
+use Rattle.alphabet.proofs.Letters.{letter-of}
 use Rattle.eertree.specs.Covers.{Covers}
 use Rattle.eertree.proofs.Covers.{covers-mirror}
 use Rattle.store.specs.Writes.{towards}
 use Rattle.store.proofs.Ends.{mirror-at}
 use Rattle.walk.specs.Replay.{letterTowards}
-
--- each letter of a word of letters is one
-pub letter-of : (s : Word) (k : ℕ) → k < length s → allLetters s ≡ true → isLetter (getD s k 0) ≡ true
-unfolding allLetters
-letter-of [] k l h = absurd (omega arith)
-letter-of (x ∷ s) zero l h = both-true (isLetter x) (allLetters s) h .0
-letter-of (x ∷ s) (suc k) l h = letter-of s k (omega arith) (both-true (isLetter x) (allLetters s) h .1)
 
 module _ (σ : ℕ → ℕ) where
   -- ---- the letters

@@ -9,13 +9,12 @@ use mathlib.Core.Bool.{Bool, true, false, not}
 use lib.ListN.{length, getD}
 use Rattle.palindromes.specs.Word.{Word, isLetter, allLetters}
 use Rattle.palindromes.proofs.Tests.{false-not-true}
+use Rattle.alphabet.proofs.Letters.{letter-of, letters-all}
 use Rattle.store.specs.Layout.{capacityIn, sizeIn, lettersAt, lettersIn}
 use Rattle.store.specs.Good.{Sized}
 use Rattle.store.proofs.Sizes.{letters-length}
 use Rattle.walk.proofs.Stores.{store-long, header-fits}
-use Rattle.walk.proofs.Towards.{letter-of}
 use Rattle.updates.proofs.Rows.{letter-at}
-use Rattle.audit.proofs.Parts.{letters-all}
 use Rattle.audit.proofs.fixed.letters_right.Statement.{statement}
 use Rattle.audit.proofs.fixed.letters_right.Tie as tie
 

@@ -1,12 +1,12 @@
--- `audit::fixed::is_letter` answers whether the byte is one of the four letters. Assumes nothing.
+-- `alphabet::is_letter` answers whether the byte is one of the four letters. Assumes nothing.
 use Prim.Native.Nat.{ℕ}
 use borrow.Author.Tests.{ne-eqb}
 use mathlib.Core.Path.{_≡_}
 use mathlib.Core.Bool.{true, false}
 use mathlib.Core.Logic.{_⊎_, inl, inr}
 use Rattle.palindromes.specs.Word.{isLetter}
-use Rattle.audit.proofs.fixed.is_letter.Statement.{statement}
-use Rattle.audit.proofs.fixed.is_letter.Tie as tie
+use Rattle.alphabet.proofs.is_letter.Statement.{statement}
+use Rattle.alphabet.proofs.is_letter.Tie as tie
 
 one-of : (x : ℕ) → (x ≡ 65) ⊎ ((x ≡ 67) ⊎ ((x ≡ 71) ⊎ (x ≡ 84))) → true ≡ isLetter x
 unfolding isLetter

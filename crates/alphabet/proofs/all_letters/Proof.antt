@@ -1,4 +1,4 @@
--- `text_calls::all_letters` is the definition's test of a piece. The loop's invariant: those passed are letters. Assumes nothing.
+-- `alphabet::all_letters` is the definition's test of a piece. The loop's invariant: those passed are letters. Assumes nothing.
 use Prim.Native.Nat.{ℕ, _+_, _-_, _<_}
 use native.Mathlib.Omega.{arith}
 use borrow.Author.Count.{below-more}
@@ -9,10 +9,9 @@ use mathlib.Core.Bool.{Bool, true, false, not}
 use lib.ListN.{length, getD}
 use Rattle.palindromes.specs.Word.{Word, isLetter, allLetters}
 use Rattle.palindromes.proofs.Tests.{false-not-true, not-true-false}
-use Rattle.walk.proofs.Towards.{letter-of}
-use Rattle.audit.proofs.Parts.{letters-all}
-use Rattle.text_calls.proofs.all_letters.Statement.{statement}
-use Rattle.text_calls.proofs.all_letters.Tie as tie
+use Rattle.alphabet.proofs.Letters.{letter-of, letters-all}
+use Rattle.alphabet.proofs.all_letters.Statement.{statement}
+use Rattle.alphabet.proofs.all_letters.Tie as tie
 
 abbrev Inv-loop : tie.InvT-loop
 Inv-loop piece i₀ i = (j : ℕ) → j < i → isLetter (getD piece j 0) ≡ true

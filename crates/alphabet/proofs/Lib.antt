@@ -1,0 +1,2 @@
+-- the laws of words of letters
+pub mod Letters
