@@ -1,8 +1,8 @@
 // Additions with no test of the store between them, exported for the benchmark alone: a record of
 // capacity 1,024 is opened and letters are added at its right end, as mirrorlist does.
 ghost use Rattle.bench_fill.specs.Fills.{Fills};
-use changes::opening;
 use alphabet::all_letters;
+use changes::opening;
 use printing::record;
 
 // Fills a record, and answers how many letters it was given; 0 where it has no room or a byte is no
