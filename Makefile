@@ -1,4 +1,5 @@
 # make                      proves the library and writes the archive for hosts in C, and the program
+# make list FILE=..         runs mirrorlist on a FASTA file
 # make test                 runs the tests around the proofs
 # make install PREFIX=..    puts the header, the archive, its pkg-config file and the program in place
 #
@@ -13,10 +14,10 @@ to := $(DESTDIR)$(prefix)
 
 sources := crates.txt $(shell find crates -name '*.rt' -o -name '*.antt')
 archive := target/staticlib/libhost.a
-# The program: the only place that names it. It is left out while its crate is not there.
-program := $(if $(wildcard crates/mirrorlist/src/main.rt),target/bin/mirrorlist)
+program := target/bin/mirrorlist
+FILE ?= examples/e1.fa
 
-.PHONY: all test install
+.PHONY: all list test install
 all: $(archive) $(program)
 
 $(archive): $(sources)
@@ -27,6 +28,9 @@ target/bin/%: $(sources)
 	rt check $*
 	touch $@
 
+list: $(program)
+	@$(program) <$(FILE)
+
 test:
 	tests/run
 
@@ -36,4 +40,4 @@ install: all
 	install -m 644 $(archive) $(to)/lib/libmirror.a
 	sed 's|@PREFIX@|$(prefix)|' mirror.pc.in >$(to)/lib/pkgconfig/mirror.pc
 	chmod 644 $(to)/lib/pkgconfig/mirror.pc
-	$(if $(program),install -m 755 $(program) $(to)/bin)
+	install -m 755 $(program) $(to)/bin

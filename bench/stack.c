@@ -6,6 +6,7 @@
 #include <string.h>
 #include <ucontext.h>
 
+#include "../include/mirror.h"
 #include "calls.h"
 #include "words.h"
 
@@ -42,6 +43,15 @@ static uint64_t nothing(struct sitting *unused)
     return 0;
 }
 
+/* Reading a FASTA text of 1,024 letters, which takes no store. */
+static uint64_t read_fasta(struct sitting *unused)
+{
+    static uint8_t text[3 + CAPACITY_MOST] = ">e\n", letters[CAPACITY_MOST];
+    (void)unused;
+    make_word(0, text + 3, CAPACITY_MOST);
+    return mirror_fasta(text, sizeof text, letters, sizeof letters);
+}
+
 /* The most that a call takes over the words; 0 where it was refused, which would measure little. */
 static size_t most_of(int call, size_t *word)
 {
@@ -73,5 +83,7 @@ int main(void)
         printf("  %-24s%8zu  %s%s\n", calls[call].name, most, word_names[word],
                most == 0 ? "  refused!" : most > LIMIT ? "  above 64 KiB!" : "");
     }
-    return bad != 0;
+    size_t empty = depth_of(nothing), fasta = depth_of(read_fasta) - empty;
+    printf("  %-24s%8zu%s\n", "fasta", fasta, (answer & 0xff) != 0 ? "  refused!" : "");
+    return bad != 0 || (answer & 0xff) != 0 || fasta > LIMIT;
 }
