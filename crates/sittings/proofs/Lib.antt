@@ -3,3 +3,4 @@ pub mod State
 pub mod Table
 pub mod Step
 pub mod Theorem
+pub mod Example

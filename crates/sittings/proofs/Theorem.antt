@@ -21,7 +21,7 @@ use Rattle.updates.specs.Rows.{rowOf}
 use Rattle.updates.specs.Addition.{bringsIn, rowAfter as rowAfterAddition}
 use Rattle.updates.specs.Removal.{longestBefore, takesOut}
 use Rattle.updates.specs.Opening.{usedBytes, openingWrites, opened}
-use Rattle.updates.proofs.Determined.{Bytes}
+use Rattle.updates.specs.Bytes.{Bytes}
 use Rattle.updates.proofs.AddedRuns.{bytes-set, bytes-writes}
 use Rattle.updates.proofs.Opening.{opened-capacity, opened-letters, opened-good}
 use Rattle.outcome.specs.Reply.{Reply, accepted, refusedWith}

@@ -24,7 +24,7 @@ use Rattle.updates.specs.Rows.{rowOf, freeRow}
 use Rattle.updates.specs.Opening.{usedBytes}
 use Rattle.updates.specs.Addition.{longestAfter, bringsIn, rowAfter, afterAddition}
 use Rattle.updates.proofs.Rows.{used-root}
-use Rattle.updates.proofs.Determined.{Bytes}
+use Rattle.updates.specs.Bytes.{Bytes}
 use Rattle.updates.proofs.AddedWord.{Accepted, letters-after, length-after, longest-found, inner-found}
 use Rattle.updates.proofs.AddedBytes.{capacity-after, reading-after, size-after, order-after, rank-after, spare-after, end-after, other-end-after, count-new, count-old, row-kept, letters-are, place-after, length-kept, rest-kept, bytes-kept}
 use Rattle.updates.proofs.AddedTable.{used-kept, used-new, used-rows, used-after, outers-kept, rule-after, node-kept, node-new, table-after}

@@ -25,7 +25,7 @@ use Rattle.updates.specs.Opening.{usedBytes}
 use Rattle.updates.specs.Addition.{longestAfter, bringsIn, rowAfter, hangWrites, settleWrites, additionWrites, afterAddition}
 use Rattle.updates.proofs.Letters.{letter-byte}
 use Rattle.updates.proofs.Rows.{row-fits, free-row, row-of-small, size-small, count-small, length-small, stored-length}
-use Rattle.updates.proofs.Determined.{Bytes}
+use Rattle.updates.specs.Bytes.{Bytes}
 use Rattle.updates.proofs.AddedRuns.{Misses, Puts, look-misses, misses-after, look-puts, puts-after, bytes-sets, bytes-writes}
 use Rattle.updates.proofs.AddedWord.{Accepted, innerRow, linkRow, lastLetter, letters-after, length-after, longest-fits, longest-found, inner-found, last-letter}
 

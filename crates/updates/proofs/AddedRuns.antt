@@ -17,7 +17,7 @@ use Rattle.store.specs.Layout.{cellAt, setCell}
 use Rattle.store.specs.Writes.{Write, writes}
 use Rattle.store.proofs.Writes.{look}
 use Rattle.updates.proofs.Letters.{letter-byte}
-use Rattle.updates.proofs.Determined.{Bytes}
+use Rattle.updates.specs.Bytes.{Bytes}
 
 -- ---- a cell after a run of writes
 

@@ -21,11 +21,8 @@ use Rattle.eertree.proofs.Rows.{word-row}
 use Rattle.store.specs.Layout.{cellAt, cell, capacityIn, sizeIn, countIn, readingIn, endRow, linkIn, innerIn, outerIn, edgeCell, edgeIn, orderIn, rankIn, usedIn, lettersAt, lettersIn}
 use Rattle.store.specs.Good.{ruleOf, tableIn, nodeIn, Good}
 use Rattle.store.proofs.Sizes.{letters-length}
+use Rattle.updates.specs.Bytes.{Bytes}
 use Rattle.updates.proofs.Rows.{letter-at, covers, length-row, outer-row}
-
--- every number of the list is a byte
-abbrev pub Bytes : Word → Type 0
-Bytes b = (i : ℕ) → getD b i 0 < 256
 
 -- ---- cells decide bytes
 

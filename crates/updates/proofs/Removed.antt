@@ -20,7 +20,7 @@ use Rattle.updates.specs.Rows.{rowOf}
 use Rattle.updates.specs.Opening.{usedBytes}
 use Rattle.updates.specs.Removal.{longestBefore, takesOut, afterRemoval}
 use Rattle.updates.proofs.Rows.{covers, row-of-node}
-use Rattle.updates.proofs.Determined.{Bytes}
+use Rattle.updates.specs.Bytes.{Bytes}
 use Rattle.updates.proofs.Added.{each-end}
 use Rattle.updates.proofs.RemovedWord.{letters-left, longest-left, other-left, count-same, count-less}
 use Rattle.updates.proofs.RemovedBytes.{end-holds, capacity-left, reading-left, size-left, end-left, other-end-left, spare-left, count-left, count-kept, length-kept, letters-are, rest-kept, places-free, bytes-kept}

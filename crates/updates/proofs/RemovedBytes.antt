@@ -26,7 +26,7 @@ use Rattle.updates.specs.Rows.{rowOf}
 use Rattle.updates.specs.Opening.{usedBytes}
 use Rattle.updates.specs.Removal.{longestBefore, takesOut, dropWrites, leaveWrites, removalWrites, afterRemoval}
 use Rattle.updates.proofs.Rows.{covers, used-rank, count-most, row-of-small, end-small, link-small, size-small}
-use Rattle.updates.proofs.Determined.{Bytes}
+use Rattle.updates.specs.Bytes.{Bytes}
 use Rattle.updates.proofs.AddedRuns.{Misses, Puts, look-misses, look-puts, misses-after, puts-after, bytes-set, bytes-sets, bytes-writes}
 use Rattle.updates.proofs.AddedBytes.{used-bytes-fit, letters-from, end-cells}
 use Rattle.updates.proofs.RemovedWord.{length-left, letters-left, one-less}

@@ -19,7 +19,8 @@ use Rattle.updates.specs.Opening.{usedBytes}
 use Rattle.updates.specs.Addition.{longestAfter, bringsIn, afterAddition}
 use Rattle.updates.specs.Removal.{longestBefore, takesOut, afterRemoval}
 use Rattle.updates.proofs.Rows.{count-most, free-row}
-use Rattle.updates.proofs.Determined.{Bytes, Alike, determined}
+use Rattle.updates.specs.Bytes.{Bytes}
+use Rattle.updates.proofs.Determined.{Alike, determined}
 use Rattle.updates.proofs.AddedBytes.{count-new}
 use Rattle.updates.proofs.Added.{Added, addition}
 use Rattle.updates.proofs.RemovedBytes.{behind}
