@@ -1,16 +1,14 @@
 -- The parts of a good store that say nothing of its palindromes: what their tests go by, letter by letter, and that a good store has the roots and the order that are tested.
 -- Rests on the laws of a good store (`Rows` of updates).
-use Prim.Native.Nat.{ℕ, zero, suc, _+_, _<_}
+use Prim.Native.Nat.{ℕ, zero, suc, _+_}
 use native.Mathlib.Omega.{arith}
-use mathlib.Core.Path.{_≡_, refl, sym, ap, _∙_, subst}
+use mathlib.Core.Path.{_≡_, sym, ap, _∙_, subst}
 use mathlib.Core.Bool.{true, _||_}
 use mathlib.Core.Logic.{⊎-elim}
-use mathlib.Core.List.{[], _∷_}
 use lib.Dec.{eqb}
-use lib.ListN.{length, getD}
+use lib.ListN.{length}
 use borrow.Author.Tests.{eqb-true}
-use Rattle.palindromes.specs.Word.{Word, isLetter, allLetters}
-use Rattle.palindromes.proofs.Tests.{both-are}
+use Rattle.palindromes.specs.Word.{Word, isLetter}
 use Rattle.palindromes.proofs.Lists.{either-true}
 use Rattle.eertree.proofs.Rows.{reachOf, link-zero, link-one, inner-zero, inner-one}
 use Rattle.store.specs.Layout.{linkIn, innerIn, outerIn}

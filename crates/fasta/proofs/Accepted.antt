@@ -1,6 +1,6 @@
 -- What an accepted text says: its identifier is one and stands after the first byte, and its letters are letters, at most 1,024.
 -- Rests on the kinds of bytes (`LaterLines`). Assumes nothing.
-use Prim.Native.Nat.{ℕ, zero, suc, _+_, _≤_, _<_}
+use Prim.Native.Nat.{ℕ, zero, suc, _+_, _≤_}
 use mathlib.Core.Path.{_≡_, refl, sym, ap, _∙_}
 use mathlib.Core.Bool.{Bool, true, false, _&&_}
 use mathlib.Core.List.{[], _∷_}

@@ -14,11 +14,6 @@ use Rattle.palindromes.specs.Bed.{isIdentifierByte}
 use Rattle.palindromes.specs.Fasta.{identifierLength, startsWithLf, endsIdentifier, goodFirstLine, afterFirstLine}
 use Rattle.fasta.proofs.Places.{at-place}
 
--- a byte in none of the three ranges may stand in an identifier only if it is an underscore
-pub outside-ranges : (b : ℕ) → (leb 65 b && leb b 90) ≡ false → (leb 97 b && leb b 122) ≡ false → (leb 48 b && leb b 57) ≡ false → isIdentifierByte b ≡ eqb b 95
-unfolding isIdentifierByte
-outside-ranges b upper lower digit = rw (upper, lower, digit)
-
 module _ (s : Word) (i : ℕ) (inside : i < length s) where
   -- the four tests of the byte after an identifier
   pub ends-inside : endsIdentifier (drop i s) ≡ (eqb (getD s i 0) 32 || eqb (getD s i 0) 9 || eqb (getD s i 0) 10 || (eqb (getD s i 0) 13 && startsWithLf (drop (i + 1) s)))

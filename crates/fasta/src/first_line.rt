@@ -1,25 +1,9 @@
 // The first line: `>`, the identifier, and where the later lines begin.
 ghost use mathlib.Core.Path.{_≡_};
-ghost use mathlib.Core.Bool.{_&&_};
 ghost use Prim.Native.Nat.{_<_};
-ghost use lib.Dec.{leb};
 ghost use lib.ListN.{length, drop};
-ghost use Rattle.palindromes.specs.Bed.{isIdentifierByte};
 ghost use Rattle.palindromes.specs.Fasta.{identifierLength, startsWithLf, endsIdentifier, goodFirstLine, afterFirstLine};
-
-// Whether the byte lies from low to high.
-fn within(low: u8, b: u8, high: u8) -> bool
-    ensures { λ r. ⌜ r ≡ (leb low b && leb b high) ⌝ }
-{
-    low <= b && b <= high
-}
-
-// Whether the byte may stand in an identifier.
-fn is_identifier_byte(b: u8) -> bool
-    ensures { λ r. ⌜ r ≡ isIdentifierByte b ⌝ }
-{
-    within(b'A', b, b'Z') || (within(b'a', b, b'z') || (within(b'0', b, b'9') || b == b'_'))
-}
+use bed::is_identifier_byte;
 
 // The length of the identifier after the first byte.
 pub fn identifier_length(text: &[u8]) -> usize

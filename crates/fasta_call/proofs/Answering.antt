@@ -1,6 +1,6 @@
 -- How reading a text keeps its promise: what the reader answers for a text, and what it writes, are the outcome's reply and buffer. Rests on the laws of the
 -- outcome (`Promises`) and on what an accepted text says (`Accepted`).
-use Prim.Native.Nat.{ℕ, _≤_, _<_}
+use Prim.Native.Nat.{ℕ, _<_}
 use native.Mathlib.Omega.{arith}
 use mathlib.Core.Path.{_≡_, refl, sym, ap, _∙_, subst}
 use mathlib.Core.Bool.{Bool, true, false, cond}

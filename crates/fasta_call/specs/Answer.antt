@@ -1,5 +1,5 @@
 -- DEFINITIONS. The reply for each case of what the FASTA reader answers. Nothing here is proved.
-use Prim.Native.Nat.{ℕ, _<_}
+use Prim.Native.Nat.{_<_}
 use mathlib.Core.Bool.{false}
 use Rattle.fasta.specs.declared.Reading.{Reading}
 use Rattle.fasta.specs.declared.Reading.the-variants.{Accepted, Refused}

@@ -3,8 +3,7 @@
 ghost use Rattle.palindromes.specs.End.{atLeft, atRight};
 ghost use mathlib.Core.List.{[]};
 ghost use Rattle.palindromes.specs.Refusal.{add, remove, askLength, askCount, askLongest, askLongestAt, askLetter, askRow, spell, find, list};
-ghost use Rattle.outcome.specs.Promise.{nothing, Promise, OpeningPromise, FastaPromise};
-ghost use Rattle.text_calls.specs.Lending.{lending};
+ghost use Rattle.outcome.specs.Promise.{lending, nothing, Promise, OpeningPromise, FastaPromise};
 use store::letters::Side;
 
 // Opens an empty record of the given capacity.

@@ -7,9 +7,13 @@ use Rattle.palindromes.specs.Refusal.{Call, opening}
 use Rattle.outcome.specs.Reply.{packed}
 use Rattle.outcome.specs.Outcome.{Lent, Outcome, outcome, fastaOutcome, Answers}
 
+-- the buffers that are lent to a call that writes text: 01 "scratch" and "buffer", each empty where the call takes none
+abbrev pub lending : Word → Word → Lent
+lending scratch out = record { scratch = scratch; out = out }
+
 -- no buffer is lent beside the store
 abbrev pub nothing : Lent
-nothing = record { scratch = []; out = [] }
+nothing = lending [] []
 
 -- the number r is the packed reply of an outcome, and the store and the buffers are left as it says
 pub record Left (o : Outcome) (r : ℕ) (b : Word) (l : Lent) : Type 0 where

@@ -6,11 +6,11 @@ use Prim.Native.Nat.{ℕ, suc, _+_, _-_, _≤_, _<_, max}
 use native.Mathlib.Omega.{arith}
 use mathlib.Core.Path.{_≡_, refl, sym, ap, _∙_, subst, subst₂}
 use mathlib.Core.Bool.{Bool, true, false, not, cond, _||_}
-use mathlib.Core.Logic.{_⊎_, inl, inr, ⊎-elim, _↔_}
+use mathlib.Core.Logic.{_⊎_, inl, inr, ⊎-elim}
 use mathlib.Core.List.{List, [], _∷_, _++_, map, append-assoc, map-append, cons-ne-nil}
 use lib.Dec.{eqb, ltb}
-use lib.ListN.{length, take, drop, getD, length-append, take-append-drop}
-use lib.Seq.{take-at, take-suc, length-take-le}
+use lib.ListN.{length, take, getD, length-append}
+use lib.Seq.{take-suc, length-take-le}
 use borrow.Author.Tests.{eqb-true, eq-eqb, ltb-true, ltb-false, le-ltb, not-true}
 use Rattle.palindromes.specs.Word.{Word, keep, sameWord}
 use Rattle.palindromes.specs.Palindrome.{SelfInverse, mirror, Symmetric, Palindrome}
@@ -18,7 +18,7 @@ use Rattle.palindromes.specs.Place.{Prefix, Stands, frequency, firstPlac
 use Rattle.palindromes.specs.Record.{palindromes, count, greatest, least, longestLength, longestPlace, longestSuffix, longestPrefix}
 use Rattle.palindromes.specs.End.{End, atLeft, atRight, removed, withoutFirst, longestAt}
 use Rattle.palindromes.proofs.Tests.{same-true, same-refl}
-use Rattle.palindromes.proofs.Words.{no-letters, suffix-stands, prefix-of-snoc, prefix-length, prefix-stands, stands-trans, stands-snoc, stands-or-not}
+use Rattle.palindromes.proofs.Words.{no-letters, suffix-stands, prefix-of-snoc, stands-snoc, stands-or-not}
 use Rattle.palindromes.proofs.Mirror.{mirror-append, mirror-length, mirror-mirror, mirror-removed, suffix-mirror, stands-in-mirror}
 use Rattle.palindromes.proofs.Longest.{longest-suffix, longest-prefix, longest-in-mirror}
 use Rattle.palindromes.proofs.Change.{at-most-one-new, longest-of-prefix}
@@ -170,27 +170,6 @@ module _ (σ : ℕ → ℕ) where
           (λ q. stands-is w t (stands-snoc c (stands-true w s q)))
           (λ q. stands-is w t (rw (same-true w v q) (suffix-stands (longest-suffix σ t .suffix))))
           (either-true (stands w s) (sameWord w v) e)
-
-  -- so a palindrome stands in a record exactly if it is the longest that ends one of its prefixes
-  pub met-before : (s w : Word) → Symmetric σ w → Stands w s ↔ ((k : ℕ) × (k ≤ length s) × (w ≡ longestSuffix σ (take k s)))
-  met-before s w h = (there, back)
-    where
-      there : Stands w s → (k : ℕ) × (k ≤ length s) × (w ≡ longestSuffix σ (take k s))
-      there q =
-          let r = longest-of-prefix σ h q in
-          let p = r .0 in
-          (length p, prefix-length (r .1), cc (r .2, take-at p (r .1 .after) (length p) refl, r .1 .whole))
-
-      back : (k : ℕ) × (k ≤ length s) × (w ≡ longestSuffix σ (take k s)) → Stands w s
-      back r =
-          let p : Prefix (take (r .0) s) s = record { after = drop (r .0) s; whole = take-append-drop (r .0) s } in
-          rw (r .2) (stands-trans (suffix-stands (longest-suffix σ (take (r .0) s) .suffix)) (prefix-stands p))
-
-  -- and what a walk over all prefixes has not met does not stand
-  pub never-met : (s w : Word) → Symmetric σ w → ((k : ℕ) → k ≤ length s → w ≡ longestSuffix σ (take k s) → ⊥) → Stands w s → ⊥
-  never-met s w h none q =
-      let r = met-before s w h .0 q in
-      none (r .0) (r .1) (r .2)
 
   -- ---- the same for the prefixes of one record, by the number of their letters
 

@@ -3,7 +3,7 @@
 -- Rests on the cuts of `Words`, on `Longest`, and for the left end on `Mirror`.
 use Prim.Native.Nat.{ℕ, _≤_}
 use native.Mathlib.Omega.{arith}
-use mathlib.Core.Path.{_≡_, sym, ap, _∙_, subst}
+use mathlib.Core.Path.{_≡_, sym, ap, subst}
 use mathlib.Core.Logic.{_⊎_, inl, inr, ⊎-elim}
 use mathlib.Core.List.{[], _∷_, _++_, append-assoc, append-nil}
 use lib.ListN.{length, length-append}
@@ -113,10 +113,6 @@ module _ (σ : ℕ → ℕ) where
           (λ q. cc (q, e))
           (λ q. absurd (omega (arith, f .first u (prefix-trans a (f .begins)) q, simp length-append at (ap length e))))
           (at-most-one-new u w c h (rw e at (suffix-stands (f .ends))))
-
-  -- so two palindromes with one first end are one
-  pub same-first-end : {v w p s : Word} → Symmetric σ v → Symmetric σ w → FirstEnd v p s → FirstEnd w p s → v ≡ w
-  same-first-end h k a b = first-end-longest h a ∙ sym (first-end-longest k b)
 
   -- and each palindrome of a word is the longest that ends one of its prefixes
   pub longest-of-prefix : {w s : Word} → Symmetric σ w → Stands w s → (p : Word) × Prefix p s × (w ≡ longestSuffix σ p)

@@ -14,7 +14,7 @@ use Rattle.palindromes.specs.Place.{Suffix, Stands}
 use Rattle.palindromes.specs.Record.{longestSuffix}
 use Rattle.palindromes.specs.End.{atRight, added, removed, letterAt, withoutLast}
 use Rattle.palindromes.specs.Node.{Node, imaginary, spelt, linkOf, innerOf, spellingOf, around}
-use Rattle.palindromes.proofs.Words.{removed-added, letter-added, added-removed, snoc-injective, suffix-refl, suffix-empty, suffix-append, suffix-trans, suffix-length, suffix-shorter, suffix-cons, suffix-of-cons, suffix-of-empty, suffix-snoc, suffix-of-snoc, suffix-snoc-back, stands-trans, stands-of-snoc, suffix-stands}
+use Rattle.palindromes.proofs.Words.{removed-added, letter-added, added-removed, snoc-injective, suffix-refl, suffix-empty, suffix-append, suffix-trans, suffix-length, suffix-shorter, suffix-cons, suffix-of-cons, suffix-of-empty, suffix-snoc, suffix-of-snoc, stands-trans, suffix-stands}
 use Rattle.palindromes.proofs.Mirror.{mirror-empty, mirror-snoc, mirror-cons}
 use Rattle.palindromes.proofs.Longest.{longest-suffix, longest-is}
 use Rattle.palindromes.proofs.Change.{symmetric-suffix-stands}
@@ -48,14 +48,6 @@ preceded-within d a h = (λ p. suffix-trans p a, λ p. suffix-shorter p a h)
 -- a word stands where it stands with a letter more on each side
 pub inner-stands : (x : ℕ) (u : Word) (c : ℕ) {s : Word} → Stands (x ∷ u ++ (c ∷ [])) s → Stands u s
 inner-stands x u c p = stands-trans (record { before = x ∷ []; after = c ∷ []; whole = refl }) p
-
--- and then it stood before the last letter came: the inner word of a new palindrome is not new
-pub inner-stood : (x : ℕ) (u : Word) (d : ℕ) (s : Word) (c : ℕ) → Stands (x ∷ u ++ (d ∷ [])) (s ++ (c ∷ [])) → Stands u s
-inner-stood x u d s c p =
-    ⊎-elim
-    (inner-stands x u d)
-    (λ q. stands-trans (suffix-stands (suffix-append (x ∷ []) u)) (suffix-stands (suffix-snoc-back d c q .0)))
-    (stands-of-snoc s c p)
 
 module _ (σ : ℕ → ℕ) where
   -- ---- palindromes from outside in
@@ -150,13 +142,6 @@ module _ (σ : ℕ → ℕ) where
   pub link-of-framed : (c : ℕ) (u : Word) → linkOf σ (spelt (around σ c (spelt u))) ≡ spelt (longestSuffix σ (u ++ (c ∷ [])))
   unfolding linkOf around
   link-of-framed c u = refl
-
-  -- of what grew from the empty word: the letter alone, if it is its own partner, and else nothing
-  pub longest-letter : (c : ℕ) → σ c ≡ c → longestSuffix σ (c ∷ []) ≡ c ∷ []
-  longest-letter c e = letter-longest c [] (λ x h k. omega (arith, suffix-length k)) e
-
-  pub longest-no-letter : (c : ℕ) → (σ c ≡ c → ⊥) → longestSuffix σ (c ∷ []) ≡ []
-  longest-no-letter c e = nothing-longest c [] (λ x h k. omega (arith, suffix-length k)) e
 
   -- and of a letter alone: nothing
   pub link-of-letter : (c : ℕ) → linkOf σ (spelt (around σ c imaginary)) ≡ spelt []

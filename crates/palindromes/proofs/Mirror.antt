@@ -10,8 +10,8 @@ use lib.ListN.{length, length-reverse, length-map}
 use Rattle.palindromes.specs.Word.{Word}
 use Rattle.palindromes.specs.Palindrome.{SelfInverse, mirror, Symmetric}
 use Rattle.palindromes.specs.Place.{Suffix, Prefix, Stands}
-use Rattle.palindromes.specs.End.{End, atLeft, atRight, other, added, removed, letterAt}
-use Rattle.palindromes.proofs.Words.{by-end, removed-added, removed-empty, letter-added}
+use Rattle.palindromes.specs.End.{End, atLeft, atRight, other, added, removed}
+use Rattle.palindromes.proofs.Words.{by-end, removed-added, removed-empty}
 
 module _ (σ : ℕ → ℕ) where
   -- ---- words turned round
@@ -43,9 +43,6 @@ module _ (σ : ℕ → ℕ) where
   pub suffix-mirror : {p s : Word} → Suffix p s → Prefix (mirror σ p) (mirror σ s)
   suffix-mirror {p} a = record { after = mirror σ (a .before); whole = sym (mirror-append (a .before) p) ∙ ap (mirror σ) (a .whole) }
 
-  pub prefix-mirror : {p s : Word} → Prefix p s → Suffix (mirror σ p) (mirror σ s)
-  prefix-mirror {p} a = record { before = mirror σ (a .after); whole = sym (mirror-append p (a .after)) ∙ ap (mirror σ) (a .whole) }
-
   pub stands-mirror : {p s : Word} → Stands p s → Stands (mirror σ p) (mirror σ s)
   stands-mirror {p} {s} a =
       record {
@@ -66,10 +63,6 @@ module _ (σ : ℕ → ℕ) where
   pub symmetric-suffix : {p s : Word} → Symmetric σ p → Symmetric σ s → Suffix p s → Prefix p s
   symmetric-suffix {p} {s} h k a = subst₂ Prefix h k (suffix-mirror a)
 
-  -- and one that begins a palindrome ends it
-  pub symmetric-prefix : {p s : Word} → Symmetric σ p → Symmetric σ s → Prefix p s → Suffix p s
-  symmetric-prefix {p} {s} h k a = subst₂ Suffix h k (prefix-mirror a)
-
   -- ---- changes at the ends
 
   -- an addition at one end is, in the mirror, the addition of the partner at the other
@@ -86,26 +79,11 @@ module _ (σ : ℕ → ℕ) where
       (λ r. cc (r .2, removed-added e (r .1) (r .0), mirror-added e (r .1) (r .0), removed-added (other e) (σ (r .1)) (mirror σ (r .0))))
       (by-end e s)
 
-  -- the letter at one end is the partner of the letter at the other end of the mirror
-  pub mirror-letter : (e : End) (s : Word) → (s ≡ [] → ⊥) → letterAt (other e) (mirror σ s) ≡ σ (letterAt e s)
-  mirror-letter e s h =
-      ⊎-elim
-      (λ n. absurd (h n))
-      (λ r. cc (r .2, letter-added e (r .1) (r .0), mirror-added e (r .1) (r .0), letter-added (other e) (σ (r .1)) (mirror σ (r .0))))
-      (by-end e s)
-
 module _ (σ : ℕ → ℕ) (inv : SelfInverse σ) where
   -- the mirror undoes itself
   pub mirror-mirror : (w : Word) → mirror σ (mirror σ w) ≡ w
   mirror-mirror [] = cc (mirror-empty σ)
   mirror-mirror (x ∷ w) = cc (mirror-cons σ x w, mirror-snoc σ (mirror σ w) (σ x), mirror-mirror w, inv x)
-
-  -- the mirrors of two words say which of them ends the other
-  pub prefix-unmirror : {p s : Word} → Prefix (mirror σ p) (mirror σ s) → Suffix p s
-  prefix-unmirror {p} {s} a = subst₂ Suffix (mirror-mirror p) (mirror-mirror s) (prefix-mirror σ a)
-
-  pub suffix-unmirror : {p s : Word} → Suffix (mirror σ p) (mirror σ s) → Prefix p s
-  suffix-unmirror {p} {s} a = subst₂ Prefix (mirror-mirror p) (mirror-mirror s) (suffix-mirror σ a)
 
   -- the two ends are one theory: a palindrome stands in a word exactly if it stands in the word's mirror
   pub stands-in-mirror : {w s : Word} → Symmetric σ w → Stands w s ↔ Stands w (mirror σ s)

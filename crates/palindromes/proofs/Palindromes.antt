@@ -80,10 +80,6 @@ module _ (σ : ℕ → ℕ) where
   unfolding palindromes
   palindromes-once s = distinct-once (keep (isPalindrome σ) (stretches s))
 
-  -- a palindrome is listed exactly if it passes the test `stands`
-  pub listed-stands : (w s : Word) → Palindrome σ w → member w (palindromes σ s) ≡ stands w s
-  listed-stands w s p = same-test (member w (palindromes σ s)) (stands w s) (λ m. stands-is w s (palindromes-true w s m .1)) (λ h. palindromes-is w s p (stands-true w s h))
-
   -- ---- growth
 
   -- the empty record has no palindrome

@@ -40,10 +40,6 @@ snoc-injective (a ∷ u) (b ∷ v) x y e =
     let r = snoc-injective u v x y (tail-eq-of-cons-eq e) in
     (cc (head-eq-of-cons-eq e, r .0), r .1)
 
--- a word that ends with a letter is not empty
-pub snoc-not-empty : (u : Word) (x : ℕ) → u ++ (x ∷ []) ≡ [] → ⊥
-snoc-not-empty u x e = omega (arith, simp length-append at (ap length e))
-
 -- every word is empty or ends with a letter
 pub by-last : (s : Word) → (s ≡ []) ⊎ ((u : Word) × (c : ℕ) × (s ≡ u ++ (c ∷ [])))
 by-last [] = inl refl
@@ -140,13 +136,6 @@ prefix-trans {a} p q = record { after = p .after ++ q .after; whole = cc (append
 pub prefix-length : {a b : Word} → Prefix a b → length a ≤ length b
 prefix-length p = omega (arith, simp length-append at (ap length (p .whole)))
 
--- a prefix that is not shorter is the whole word
-pub prefix-full : {a b : Word} → Prefix a b → length b ≤ length a → a ≡ b
-prefix-full {a} p h = cc (no-letters (p .after) (omega (arith, simp length-append at (ap length (p .whole)))), append-nil a)
-
-pub prefix-antisym : {a b : Word} → Prefix a b → Prefix b a → a ≡ b
-prefix-antisym p q = prefix-full p (prefix-length q)
-
 -- of two prefixes of one word the shorter is a prefix of the longer
 pub prefix-shorter : {p q s : Word} → Prefix p s → Prefix q s → length p ≤ length q → Prefix p q
 prefix-shorter {p} {q} a b h =
@@ -176,15 +165,6 @@ stands-trans {a} {c} p q =
 pub stands-length : {a b : Word} → Stands a b → length a ≤ length b
 stands-length p = omega (arith, simp length-append at (ap length (p .whole)))
 
--- what stands in a word and is not shorter is the whole word
-pub stands-full : {a b : Word} → Stands a b → length b ≤ length a → a ≡ b
-stands-full {a} p h =
-    let l = simp length-append at (ap length (p .whole)) in
-    cc (no-letters (p .before) (omega (arith, l)), no-letters (p .after) (omega (arith, l)), append-nil a)
-
-pub stands-antisym : {a b : Word} → Stands a b → Stands b a → a ≡ b
-stands-antisym p q = stands-full p (stands-length q)
-
 -- what ends a word or begins it stands in it
 pub suffix-stands : {p s : Word} → Suffix p s → Stands p s
 suffix-stands {s} p = record { before = p .before; after = []; whole = append-nil _ ∙ p .whole }
@@ -209,10 +189,6 @@ stands-of-snoc {w} s c p =
 
 pub stands-of-empty : {w : Word} → Stands w [] → w ≡ []
 stands-of-empty p = no-letters _ (stands-length p)
-
--- what stands in a word ends one of its prefixes
-pub stands-ends-prefix : {w s : Word} → Stands w s → (p : Word) × Prefix p s × Suffix w p
-stands-ends-prefix {w} p = (p .before ++ w, record { after = p .after; whole = p .whole }, suffix-append (p .before) w)
 
 -- ---- it can be told
 

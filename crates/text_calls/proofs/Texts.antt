@@ -2,7 +2,7 @@
 use Prim.Native.Nat.{ℕ, _*_, _≤_, _<_}
 use mathlib.Core.Path.{_≡_, refl, sym, ap, ap₂, _∙_, subst}
 use mathlib.Core.Bool.{Bool, true, false}
-use mathlib.Core.List.{[], _∷_}
+use mathlib.Core.List.{[]}
 use native.Mathlib.Omega.{arith}
 use lib.Dec.{leb}
 use lib.ListN.{length, replicate}
@@ -25,11 +25,10 @@ use Rattle.outcome.specs.declared.answers.Found.{Found}
 use Rattle.outcome.specs.Reply.{packed, accepted}
 use Rattle.outcome.specs.Answers.{foundOf, foundReply}
 use Rattle.outcome.specs.Outcome.{viewIn, acceptedOutcome, changed, written}
-use Rattle.outcome.specs.Promise.{nothing, Promise}
+use Rattle.outcome.specs.Promise.{lending, nothing, Promise}
 use Rattle.outcome.specs.Verdict.{Verdict, judged}
 use Rattle.outcome.proofs.Refusals.{spell-free, spell-short, spell-accepted, find-empty, find-letters, find-accepted, list-name, list-scratch, list-out, list-accepted}
 use Rattle.outcome.proofs.Promises.{cleared, carried}
-use Rattle.text_calls.specs.Lending.{lending}
 
 -- the letters are at most 1,024
 pub few : {b : Word} → Good b → length (lettersIn b) ≤ 1024

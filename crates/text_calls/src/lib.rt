@@ -4,9 +4,8 @@
 ghost use mathlib.Core.Path.{_≡_};
 ghost use mathlib.Core.List.{[]};
 ghost use Rattle.palindromes.specs.Refusal.{spell, find, list};
-ghost use Rattle.outcome.specs.Promise.{nothing, Promise};
+ghost use Rattle.outcome.specs.Promise.{lending, nothing, Promise};
 ghost use Rattle.outcome.specs.Verdict.{Verdict};
-ghost use Rattle.text_calls.specs.Lending.{lending};
 use alphabet::all_letters;
 use bed::is_identifier;
 use outcome::answers::Found;

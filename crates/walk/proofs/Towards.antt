@@ -2,7 +2,7 @@
 -- read last, one that leaves is the one that is no longer read, the longest palindrome at the end is the longest that ends what is read, and the palindromes are the same. So what is proved
 -- of reading from left to right is proved at both ends.
 -- Rests on the laws of the mirror (`Mirror`, `longest-prefix`, `covers-mirror`); a partner rule that undoes itself is asked for only where a mirror is undone.
-use Prim.Native.Nat.{ℕ, zero, suc, _-_, _<_}
+use Prim.Native.Nat.{ℕ, _-_, _<_}
 use native.Mathlib.Omega.{arith}
 use mathlib.Core.Path.{_≡_, refl, sym, ap, _∙_}
 use mathlib.Core.Bool.{true}
@@ -17,7 +17,6 @@ use Rattle.palindromes.specs.Record.{longestSuffix}
 use Rattle.palindromes.specs.End.{End, atLeft, atRight, added, removed, longestAt}
 use Rattle.palindromes.specs.Node.{Node}
 use Rattle.palindromes.specs.Eertree.{Table}
-use Rattle.palindromes.proofs.Tests.{both-true}
 use Rattle.palindromes.proofs.Lists.{same-test}
 use Rattle.palindromes.proofs.Words.{by-end, removed-added, removed-empty, added-length}
 use Rattle.palindromes.proofs.Mirror.{mirror-empty, mirror-cons, mirror-length, stands-in-mirror}

@@ -1,10 +1,8 @@
 -- `printing::record::fill` adds the letters one by one. The loop's invariant: the first i letters stand. Assumes nothing.
-use Prim.Native.Nat.{ℕ, _-_, _≤_}
+use Prim.Native.Nat.{_-_, _≤_}
 use native.Mathlib.Omega.{arith}
-use borrow.Author.Needs.{needs}
 use mathlib.Core.Path.{_≡_, refl, ap, _∙_}
-use lib.ListN.{length, take, getD}
-use Rattle.palindromes.specs.Word.{Word}
+use lib.ListN.{length, take}
 use Rattle.palindromes.specs.End.{atRight}
 use Rattle.updates.proofs.Added.{addition}
 use Rattle.printing.specs.Filled.{Filled}
