@@ -35,16 +35,6 @@ use Rattle.updates.proofs.Letters.{letter-byte}
 use Rattle.updates.proofs.Rows.{covers, used-rank, used-fits, row-fits, row-of, count-most, outer-letter}
 use Rattle.changes.specs.Steps.{Parts, Leaves, endWrites}
 
--- the empty string stands among any letters
-pub surveyed-empty : {b t : Word} {k last : ℕ} → nodeIn b 1 ≡ spelt [] → Holds b t k last → Surveyed b t k 1 last true
-surveyed-empty {t} {k} r h =
-    record {
-      ends = h;
-      tells = λ w f.
-          let e : w ≡ [] = cc in
-          sym (rw e (stands-is [] (take k t) (stands-empty (take k t))));
-    }
-
 module _ {b : Word} (g : Good b) (e : End) where
   -- ---- what is found
 

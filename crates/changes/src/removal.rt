@@ -7,9 +7,7 @@ use store::header;
 use store::letters;
 use store::letters::Side;
 use store::rows;
-use store::rows::Row;
 use walk::replay;
-use walk::replay::Findings;
 ghost use mathlib.Core.Path.{_≡_};
 ghost use mathlib.Core.Bool.{true, false};
 ghost use Prim.Native.Nat.{_+_, _*_, _-_, _<_, _≤_};
@@ -19,7 +17,6 @@ ghost use Rattle.store.specs.Good.{Good};
 ghost use Rattle.store.specs.Layout.{sizeIn, endRow, usedIn, lettersIn};
 ghost use Rattle.store.specs.Side.{endOf};
 ghost use Rattle.store.specs.Writes.{writes};
-ghost use Rattle.walk.specs.Replay.{lettersTowards, Holds, Surveyed};
 ghost use Rattle.updates.specs.Removal.{takesOut, dropWrites, afterRemoval};
 ghost use Rattle.outcome.specs.Answers.{removedOf};
 ghost use Rattle.changes.specs.Steps.{Parts, Leaves, LeafOf, placesChanged};
@@ -44,35 +41,6 @@ struct Leaf {
     pub moved: usize,
 }
 
-// The row of the longest palindrome that ends the first m letters, read towards a side.
-fn reread(b: &[u8], side: Side, m: usize) -> usize
-    requires { ⌜ Good (now b) ⌝ }
-    requires { ⌜ m ≤ sizeIn (now b) ⌝ }
-    ensures { λ r. ⌜ Holds (now (b .entry)) (lettersTowards (now (b .entry)) (endOf side)) m r ⌝ }
-{
-    let mut last = Row::EMPTY;
-    let mut k = 0;
-    while k < m {
-        last = replay::next(b, side, k, last);
-        k += 1;
-    }
-    last
-}
-
-// The same, and whether the palindrome of `row` stands among those letters. The empty string does.
-fn rest(b: &[u8], side: Side, m: usize, row: usize) -> Findings
-    requires { ⌜ Good (now b) ⌝ }
-    requires { ⌜ m ≤ sizeIn (now b) ⌝ }
-    requires { ⌜ (usedIn (now b) row ≡ true) × (1 ≤ row) ⌝ }
-    ensures { λ r. ⌜ Surveyed (now (b .entry)) (lettersTowards (now (b .entry)) (endOf side)) m row (r .last) (r .met) ⌝ }
-{
-    if row == Row::EMPTY {
-        let last = reread(b, side, m);
-        return Findings { last, met: true };
-    }
-    replay::survey(b, side, m, row)
-}
-
 // What the removal at a side of a record that is not empty finds.
 fn part(b: &[u8], side: Side) -> Parting
     requires { ⌜ Good (now b) ⌝ }
@@ -81,7 +49,7 @@ fn part(b: &[u8], side: Side) -> Parting
 {
     let f = replay::frame_of(b);
     let row = header::end_row(b, side);
-    let found = rest(b, side, f.n - 1, row);
+    let found = replay::survey(b, side, f.n - 1, row);
     let longest = rows::length_of(b, row);
     let link = rows::link_of(b, row);
     Parting {

@@ -4,12 +4,14 @@
 use Prim.Native.Nat.{ℕ, _+_, _≤_, _<_}
 use native.Mathlib.Omega.{arith}
 use native.Mathlib.Numerals.{add-one}
-use mathlib.Core.Path.{_≡_, sym, ap, _∙_, subst}
+use mathlib.Core.Path.{_≡_, refl, sym, ap, _∙_, subst}
 use mathlib.Core.Bool.{Bool, true, false}
 use mathlib.Core.Logic.{_⊎_, inl, inr, ⊎-elim}
 use mathlib.Core.List.{[], _∷_, _++_}
+use lib.Dec.{eqb}
 use lib.ListN.{length, getD, take, drop, take-append-drop}
 use lib.Seq.{take-suc}
+use borrow.Author.Tests.{eqb-true, eqb-false}
 use Rattle.palindromes.specs.Word.{Word, isLetter}
 use Rattle.palindromes.specs.Palindrome.{SelfInverse, Symmetric}
 use Rattle.palindromes.specs.Place.{Stands, stands}
@@ -21,7 +23,7 @@ use Rattle.palindromes.proofs.Lists.{same-test}
 use Rattle.palindromes.proofs.Words.{suffix-of-empty, suffix-stands, stands-of-empty, stands-snoc, prefix-stands}
 use Rattle.palindromes.proofs.Longest.{longest-suffix}
 use Rattle.palindromes.proofs.Change.{at-most-one-new}
-use Rattle.palindromes.proofs.Places.{stands-true, stands-is}
+use Rattle.palindromes.proofs.Places.{stands-true, stands-is, stands-empty}
 use Rattle.eertree.specs.Covers.{NodeOf, Covers}
 use Rattle.eertree.proofs.Covers.{shows-covers}
 use Rattle.eertree.proofs.Rows.{word-row}
@@ -73,17 +75,21 @@ module _ (b t : Word) (h : Covers (ruleOf b) t (tableIn b) (nodeIn b)) where
 
   -- ---- whether a palindrome stands
 
-  module _ (row : ℕ) (u : usedIn b row ≡ true) (n : 2 ≤ row) where
-    -- before the first letter none does
-    pub surveyed-first : Surveyed b t 0 row 1 false
-    surveyed-first =
-        record {
-          ends = holds-first;
-          tells = λ w e.
-              let p = word-row h row u n in
-              let f : w ≡ p .0 = cc (p .1) in
-              sym (not-true-false (stands w []) λ s. p .2 .non-empty (cc (stands-of-empty (stands-true w [] s))));
-        }
+  module _ (row : ℕ) (u : usedIn b row ≡ true) where
+    -- before the first letter the empty string alone does
+    pub surveyed-first : 1 ≤ row → Surveyed b t 0 row 1 (eqb row 1)
+    surveyed-first n = record { ends = holds-first; tells = λ w e. by-row w e (eqb row 1) refl }
+      where
+        by-row : (w : Word) → nodeIn b row ≡ spelt w → (x : Bool) → eqb row 1 ≡ x → x ≡ stands w []
+        by-row w e true f =
+            let r : row ≡ 1 = eqb-true row 1 f in
+            let none : w ≡ [] = cc (h .row-one .1) in
+            sym (rw none (stands-is [] [] (stands-empty [])))
+        by-row w e false f =
+            let two : 2 ≤ row = omega (arith, n, eqb-false row 1 f) in
+            let p = word-row h row u two in
+            let g : w ≡ p .0 = cc (p .1) in
+            sym (not-true-false (stands w []) λ s. p .2 .non-empty (cc (stands-of-empty (stands-true w [] s))))
 
     -- after one letter more it does if the step has led to its row, or if it did before
     pub surveyed-next : (k last new : ℕ) (old met : Bool) → k < length t → Surveyed b t k row last old → Holds b t (k + 1) new

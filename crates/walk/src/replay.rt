@@ -55,15 +55,16 @@ pub struct Findings {
 }
 
 // Reads the first m letters: the row of the longest palindrome that ends them, and whether the
-// palindrome of `row` stands among them, which is whether the replay comes to that row.
+// palindrome of `row` stands among them, which is whether the replay comes to that row. The empty
+// string stands among any.
 pub fn survey(b: &[u8], side: Side, m: usize, row: usize) -> Findings
     requires { ⌜ Good (now b) ⌝ }
     requires { ⌜ m ≤ sizeIn (now b) ⌝ }
-    requires { ⌜ (usedIn (now b) row ≡ true) × (2 ≤ row) ⌝ }
+    requires { ⌜ (usedIn (now b) row ≡ true) × (1 ≤ row) ⌝ }
     ensures { λ r. ⌜ Surveyed (now (b .entry)) (lettersTowards (now (b .entry)) (endOf side)) m row (r .last) (r .met) ⌝ }
 {
     let mut last = Row::EMPTY;
-    let mut met = false;
+    let mut met = row == Row::EMPTY;
     let mut k = 0;
     while k < m {
         last = next(b, side, k, last);

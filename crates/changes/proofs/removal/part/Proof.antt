@@ -16,8 +16,8 @@ use Rattle.changes.proofs.removal.part.Tie as tie
 end-row-requires : tie.Need-end-row-requires
 end-row-requires c κs = header-fits (c .before .before .pre .0 .sized)
 
-rest-requires : tie.Need-rest-requires
-rest-requires c κs =
+survey-requires : tie.Need-survey-requires
+survey-requires c κs =
     let s = c .before .before .before .before in
     let g = s .pre .0 in
     let e = endOf (s .args .side) in
@@ -52,10 +52,10 @@ returns c =
     let f = c .before .before .before .before .before .before .before .frame-of .ensures in
     let r = c .before .before .before .before .before .before .end-row .ensures .0 in
     let l = c .before .before .before .length-of .ensures in
-    parted g e (f .base-is) (f .size-is) r (c .before .before .before .before .rest .ensures) (c .before .letter-at .ensures) (c .before .before .link-of .ensures .0)
+    parted g e (f .base-is) (f .size-is) r (c .before .before .before .before .survey .ensures) (c .before .letter-at .ensures) (c .before .before .link-of .ensures .0)
     (c .across .ensures (length (longestBefore e b)) (kept (l .1) ∙ l .0 ∙ ap (lengthIn b) r ∙ end-length g e))
 
 pub part-spec : {M : Type 1} → statement M
 part-spec =
     tie.close
-    (tie.spec (λ c κs. search needs) end-row-requires (λ c. search needs) rest-requires length-of-requires link-of-requires letter-at-requires across-requires returns)
+    (tie.spec (λ c κs. search needs) end-row-requires (λ c. search needs) survey-requires length-of-requires link-of-requires letter-at-requires across-requires returns)

@@ -42,7 +42,7 @@ loop-again c =
     let h = covers-read (s .pre .0) (endOf (a .side)) in
     let l : i .k < length t = omega (arith, read-length (s .pre .0) (endOf (a .side))) in (
       omega arith,
-      surveyed-next (a .b .now) t h (a .row) (s .pre .1 .1 .0) (s .pre .1 .1 .1) (i .k) (i .last) (c .before .next .result) (i .met) (c .if1 .met) l (i .inv .1) (c .before .next .ensures)
+      surveyed-next (a .b .now) t h (a .row) (s .pre .1 .1 .0) (i .k) (i .last) (c .before .next .result) (i .met) (c .if1 .met) l (i .inv .1) (c .before .next .ensures)
           (⊎-elim (λ w. inl (w .0 .taken, w .1)) (λ w. inr (w .0 .left, w .1)) (c .if1 .came)),
     )
 
