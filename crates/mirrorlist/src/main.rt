@@ -4,6 +4,7 @@
 // One byte more is read than a text may have, so that a text that is too long is seen to be one.
 ghost use mathlib.Core.Path.{_≡_};
 ghost use lib.ListN.{length};
+ghost use Rattle.mirrorlist.specs.Reading.{Within};
 use libc::STDIN_FILENO;
 use libc::STDOUT_FILENO;
 
@@ -21,20 +22,39 @@ fn lines_buffer() -> [u8; 46080]
     [0; 46080]
 }
 
-// Whether standard input cannot be read, asked when no byte came: reading once more at the end of an
-// input tells nothing new, and fails again where it failed.
-fn unreadable() -> bool {
-    let mut one = [0u8; 1];
-    libc::read(STDIN_FILENO, &mut one) < 0
+// What reading standard input came to: so many bytes, or a read that failed.
+enum Input {
+    Read(usize),
+    Failed,
+}
+
+// Reads standard input to its end, or until the buffer is full. The end is a read of no bytes. One
+// that fails leaves open what was still to come, so what was read before it is not answered.
+fn read_input(text: &mut [u8]) -> Input
+    ensures { λ r. ⌜ Within r (now (text .exit)) ⌝ }
+{
+    let mut n = 0;
+    while n < text.len() {
+        let got = libc::read(STDIN_FILENO, &mut text[n..]);
+        if got < 0 {
+            return Input::Failed;
+        }
+        let more = io::count(got, &text[n..]);
+        if more == 0 {
+            break;
+        }
+        n += more;
+    }
+    Input::Read(n)
 }
 
 fn main() {
     let mut text = text_buffer();
-    let n = io::read_full(STDIN_FILENO, &mut text);
-    if n == 0 && unreadable() {
+    let input = read_input(&mut text);
+    let Input::Read(n) = input else {
         os::fail(b"mirrorlist: standard input");
         return;
-    }
+    };
     let mut out = lines_buffer();
     let m = printing::print(&text[..n], &mut out);
     if !io::write_all(STDOUT_FILENO, &out[..m]) {
