@@ -2,18 +2,16 @@
 -- Rests on the definitions alone. Assumes nothing.
 use Prim.Native.Nat.{ℕ, _+_, _≤_, _<_}
 use mathlib.Core.Path.{_≡_, refl, sym, ap, _∙_}
-use mathlib.Core.Bool.{Bool, true, false, cond, true≢false}
+use mathlib.Core.Bool.{true, false, true≢false}
 use mathlib.Core.List.{[], _∷_}
 use native.Mathlib.Nat.{suc-ne-zero}
 use native.Mathlib.Omega.{arith}
-use lib.Dec.{ltb}
 use lib.ListN.{length, drop}
 use lib.Seq.{sets}
 use borrow.Author.Tests.{lt-ltb, le-ltb}
 use Rattle.palindromes.specs.Word.{Word}
-use Rattle.palindromes.specs.Refusal.{fault as numberIf, fastaFault}
 use Rattle.palindromes.specs.Fasta.{Fasta, refused, accepted, identifierLength, goodFirstLine, afterFirstLine, Body, fault, letters, readLines, withIdentifier, readFasta}
-use Rattle.fasta.specs.Reader.{readingOf, writtenTo, numberOf}
+use Rattle.fasta.specs.Reader.{readingOf, writtenTo}
 use Rattle.fasta.specs.Passes.{tallyAfter, lettersOf, Answers}
 use Rattle.fasta.specs.declared.Reading.the-variants.{Accepted, Refused}
 use Rattle.fasta.specs.declared.later_lines.Tally.the-variants.{Letters, Fault}
@@ -77,15 +75,3 @@ module _ (f : Fasta) (n m : ℕ) (w out : Word) (says : f ≡ accepted n w) (man
   pub answers-letters : (after : Word) → m ≤ length out → after ≡ sets out 0 w → Answers f out (Accepted n m) after
   unfolding readingOf writtenTo
   answers-letters after room written = rw (says, many, le-ltb (length out) m room) (refl, written)
-
--- ---- the number
-
--- the answer's number is the one that the table of document 01 gives the call
-pub number-is-fault : (f : Fasta) (room : ℕ) → numberOf (readingOf f room) ≡ fastaFault f room
-unfolding readingOf numberIf fastaFault
-number-is-fault (refused k) room = refl
-number-is-fault (accepted n w) room = by-room (ltb room (length w))
-  where
-    by-room : (short : Bool) → numberOf (cond short (Refused 9) (Accepted n (length w))) ≡ numberIf 9 short
-    by-room true = refl
-    by-room false = refl

@@ -1,5 +1,5 @@
 -- DEFINITIONS. What the FASTA reader answers and what it writes, from what `readFasta` says of the text. Nothing here is proved.
-use Prim.Native.Nat.{ℕ, zero}
+use Prim.Native.Nat.{ℕ}
 use mathlib.Core.Bool.{cond}
 use lib.Dec.{ltb}
 use lib.ListN.{length}
@@ -18,18 +18,3 @@ readingOf (accepted n w) room = cond (ltb room (length w)) (Refused 9) (Accepted
 unfoldable pub writtenTo : Fasta → Word → Word
 writtenTo (refused n) out = out
 writtenTo (accepted n w) out = cond (ltb (length out) (length w)) out (sets out 0 w)
-
--- the paper's number of an answer: 0 where the text is accepted
-abbrev pub numberOf : Reading → ℕ
-numberOf (Accepted n m) = zero
-numberOf (Refused n) = n
-
--- the first value of an answer, the identifier's length: 0 for a refusal
-abbrev pub firstOf : Reading → ℕ
-firstOf (Accepted n m) = n
-firstOf (Refused n) = zero
-
--- the second value of an answer, the number of letters: 0 for a refusal
-abbrev pub secondOf : Reading → ℕ
-secondOf (Accepted n m) = m
-secondOf (Refused n) = zero

@@ -1,13 +1,13 @@
 -- DEFINITIONS. The reply for each case of what the FASTA reader answers. Nothing here is proved.
 use Prim.Native.Nat.{_<_}
-use mathlib.Core.Bool.{false}
 use Rattle.fasta.specs.declared.Reading.{Reading}
 use Rattle.fasta.specs.declared.Reading.the-variants.{Accepted, Refused}
-use Rattle.outcome.specs.Reply.{Reply, refusedWith, accepted}
+use Rattle.outcome.specs.Reply.{Reply, refusedWith}
+use Rattle.outcome.specs.Outcome.{readReply}
 
--- 01 "the reader answers the identifier's length and the number of letters"; a refusal answers its number
+-- an accepted text answers as `readReply` says, a refused one its number
 abbrev pub readingReply : Reading → Reply
-readingReply (Accepted n m) = accepted false 0 n m
+readingReply (Accepted n m) = readReply n m
 readingReply (Refused number) = refusedWith number
 
 -- the numbers of an answer fit their bytes

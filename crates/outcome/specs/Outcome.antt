@@ -59,10 +59,14 @@ changed r b l = record { reply = r; store = b; lent = l }
 unfoldable pub written : Word → Word → Word
 written w out = sets out 0 w
 
--- 01 "FASTA": a text that is read answers the length of its identifier and the number of its letters; one with a fault, the number of its first fault
+-- 01 "The reader answers the identifier's length and the number of letters", with the number 0
+abbrev pub readReply : (identifier letters : ℕ) → Reply
+readReply identifier letters = accepted false 0 identifier letters
+
+-- 01 "FASTA": a text that is read answers that of its identifier and its letters; one with a fault, the number of its first fault
 unfoldable pub fastaReply : Fasta → Reply
 fastaReply (refused n) = refusedWith n
-fastaReply (read n w) = accepted false 0 n (length w)
+fastaReply (read n w) = readReply n (length w)
 
 -- the letters of a text that is read, at the front of the buffer; after a fault the buffer as it was
 unfoldable pub fastaLetters : Fasta → Word → Word
