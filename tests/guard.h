@@ -9,7 +9,7 @@ typedef enum { GUARD_AFTER, GUARD_BEFORE } guard_place;
 
 /* From now on buffers end at a guard page (as at the start), or begin right after one. */
 void guard_at(guard_place place);
-/* A buffer of n bytes in the given slot (0 to 4) that touches a guard page. The slot's former buffer is gone. */
+/* A buffer of n bytes in the given slot (0 to 6) that touches a guard page. The slot's former buffer is gone. */
 uint8_t *guard_room(int slot, size_t n);
 /* The same, holding a copy of n bytes. */
 uint8_t *guarded(int slot, const unsigned char *from, size_t n);

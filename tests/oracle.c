@@ -8,15 +8,14 @@
 
 enum { LENT = 100 * 1024, TEXT_SLOT = 0, OUT_SLOT, SCRATCH_SLOT };
 
-const char *const call_names[CALL_KINDS] = {"add left", "add right", "remove left", "remove right", "length", "count", "longest",
-    "longest left", "longest right", "letter", "row", "spell", "find", "list"};
 unsigned long oracle_calls;
 
 static unsigned char plain[256];
 static shown was, is;
 static const char *verdict;
 static uint8_t before[LENT];
-static uint8_t *text, *out, *scratch;
+static const library linked = LIBRARY_OF_THIS_PROGRAM;
+static buffers lent;
 static char wanted_out[64 * 1024];
 
 const char *oracle_verdict(void)
@@ -28,7 +27,7 @@ static const call opening = {CALL_KINDS, 0, NULL, 0, 0, 0};
 
 static void fail(const call *c, const char *what, uint64_t wanted, uint64_t got, size_t length)
 {
-    printf("%s %llu, store of %zu bytes (%s): %s: wanted %llx, got %llx\nstore before:", c == &opening ? "open" : call_names[c->kind], (unsigned long long)c->number,
+    printf("%s %llu, store of %zu bytes (%s): %s: wanted %llx, got %llx\nstore before:", c == &opening ? "open" : call_name(c->kind), (unsigned long long)c->number,
            length, verdict ? verdict : "good", what, (unsigned long long)wanted, (unsigned long long)got);
     for (size_t i = 0; i < length && i < 2000; i++) printf(" %02x", before[i]);
     printf("\n");
@@ -38,26 +37,6 @@ static void fail(const call *c, const char *what, uint64_t wanted, uint64_t got,
 static uint64_t packed(unsigned flag, unsigned row, size_t first, size_t second)
 {
     return (uint64_t)flag << 8 | (uint64_t)row << 16 | (uint64_t)first << 32 | (uint64_t)second << 48;
-}
-
-static uint64_t make(uint8_t *store, size_t length, const call *c)
-{
-    switch (c->kind) {
-    case ADD_LEFT: return mirror_add_left(store, length, c->number);
-    case ADD_RIGHT: return mirror_add_right(store, length, c->number);
-    case REMOVE_LEFT: return mirror_remove_left(store, length);
-    case REMOVE_RIGHT: return mirror_remove_right(store, length);
-    case LENGTH: return mirror_length(store, length);
-    case COUNT: return mirror_count(store, length);
-    case LONGEST: return mirror_longest(store, length);
-    case LONGEST_LEFT: return mirror_longest_left(store, length);
-    case LONGEST_RIGHT: return mirror_longest_right(store, length);
-    case LETTER: return mirror_letter(store, length, c->number);
-    case ROW: return mirror_row(store, length, c->number);
-    case SPELL: return mirror_spell(store, length, c->number, out, c->out_length);
-    case FIND: return mirror_find(store, length, text, c->text_length);
-    default: return mirror_list(store, length, text, c->text_length, scratch, c->scratch_length, out, c->out_length);
-    }
 }
 
 static int letter(uint64_t c)
@@ -159,13 +138,13 @@ static void check_buffers(const call *c, size_t length, uint64_t answer)
     int done = (answer & 0xff) == 0;
     size_t written = done && (c->kind == LIST || c->kind == SPELL) ? (answer >> 32 & 0xffff) : 0;
     size_t cleared = done && c->kind == LIST ? 4 * was.size : 0;
-    if (c->text_length && memcmp(text, c->text, c->text_length) != 0) fail(c, "the piece or identifier changed", 0, 1, length);
+    if (c->text_length && memcmp(lent.text, c->text, c->text_length) != 0) fail(c, "the piece or identifier changed", 0, 1, length);
     for (size_t i = 0; i < c->out_length; i++) {
         uint8_t wanted = i < written ? (uint8_t)wanted_out[i] : 0x5a;
-        if (out[i] != wanted) fail(c, "output byte", wanted, out[i], length);
+        if (lent.out[i] != wanted) fail(c, "output byte", wanted, lent.out[i], length);
     }
     for (size_t i = 0; i < c->scratch_length; i++)
-        if (scratch[i] != (i < cleared ? 0 : 0xa5)) fail(c, "scratch byte", i < cleared ? 0 : 0xa5, scratch[i], length);
+        if (lent.scratch[i] != (i < cleared ? 0 : 0xa5)) fail(c, "scratch byte", i < cleared ? 0 : 0xa5, lent.scratch[i], length);
 }
 
 /* the order after a change: an addition leaves it, a row that goes changes places with the last row in use */
@@ -207,11 +186,11 @@ static void check_change(const uint8_t *store, size_t length, const call *c, uin
 
 static void lend(const call *c)
 {
-    text = guarded(TEXT_SLOT, c->text, c->text_length);
-    out = guard_room(OUT_SLOT, c->out_length);
-    scratch = guard_room(SCRATCH_SLOT, c->scratch_length);
-    memset(out, 0x5a, c->out_length);
-    memset(scratch, 0xa5, c->scratch_length);
+    lent.text = guarded(TEXT_SLOT, c->text, c->text_length);
+    lent.out = guard_room(OUT_SLOT, c->out_length);
+    lent.scratch = guard_room(SCRATCH_SLOT, c->scratch_length);
+    memset(lent.out, 0x5a, c->out_length);
+    memset(lent.scratch, 0xa5, c->scratch_length);
 }
 
 /* an opened store: good, empty, the cells that are not used cleared, the bytes beyond as they were */
@@ -246,7 +225,7 @@ uint64_t oracle(uint8_t *store, size_t length, const call *c)
     verdict = judge(store, length, &was);
     memcpy(before, store, length);
     lend(c);
-    uint64_t wanted = wanted_answer(c), got = make(store, length, c);
+    uint64_t wanted = wanted_answer(c), got = call_make(&linked, store, length, c, &lent);
     int changes = c->kind <= REMOVE_RIGHT && (wanted & 0xff) == 0;
     oracle_calls++;
     if (changes && c->kind <= ADD_RIGHT && wanted != 0) wanted |= (uint64_t)layout_cell(before, was.count + 2, CELL_ORDER) << 16;

@@ -1,0 +1,26 @@
+#include "calls.h"
+
+const char *call_name(call_kind kind)
+{
+    return library_names[1 + kind];
+}
+
+uint64_t call_make(const library *of, uint8_t *store, size_t length, const call *c, const buffers *lent)
+{
+    switch (c->kind) {
+    case ADD_LEFT: return of->add_left(store, length, c->number);
+    case ADD_RIGHT: return of->add_right(store, length, c->number);
+    case REMOVE_LEFT: return of->remove_left(store, length);
+    case REMOVE_RIGHT: return of->remove_right(store, length);
+    case LENGTH: return of->length(store, length);
+    case COUNT: return of->count(store, length);
+    case LONGEST: return of->longest(store, length);
+    case LONGEST_LEFT: return of->longest_left(store, length);
+    case LONGEST_RIGHT: return of->longest_right(store, length);
+    case LETTER: return of->letter(store, length, c->number);
+    case ROW: return of->row(store, length, c->number);
+    case SPELL: return of->spell(store, length, c->number, lent->out, c->out_length);
+    case FIND: return of->find(store, length, lent->text, c->text_length);
+    default: return of->list(store, length, lent->text, c->text_length, lent->scratch, c->scratch_length, lent->out, c->out_length);
+    }
+}

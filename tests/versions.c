@@ -1,0 +1,332 @@
+/* Two versions of the library side by side: each call goes to both with the same arguments and equal bytes lent, and the
+ * answers and every lent byte afterwards must be equal. Long sittings at both ends with every question, damaged stores,
+ * FASTA texts and lists; nothing is judged here but that both do the same. tests/versions builds the two.
+ *
+ *     versions ONE.so OTHER.so SEED CALLS [LEFT OUT..]
+ *
+ * CALL leaves a call out, CALL.flag, .row, .first or .second that field of its answer; `store` leaves out the stores'
+ * bytes, for versions that lay a store out differently: then no store is damaged either. */
+#include "calls.h"
+#include "damages.h"
+#include "fasta_texts.h"
+#include "guard.h"
+#include "random.h"
+#include <stdio.h>
+#include <stdlib.h>
+#include <string.h>
+
+enum { MOST = 1024, EXTRA = 40, PIECE = MOST + 8, FASTA_MOST = 8192, FASTA = LIBRARY_CALLS - 1, OPEN = 0 };
+enum { TEXT_SLOT, OUT_SLOT, SCRATCH_SLOT = OUT_SLOT + 2, STORE_SLOT = SCRATCH_SLOT + 2 };
+enum { SMALL = 24 }; /* up to so many letters the judge, which damage asks, is fast */
+
+static library both[2];
+static uint8_t *stores[2], *outs[2], *scratches[2], *text;
+static size_t length, capacity, size;
+static unsigned char letters[MOST + 1];
+static uint64_t left_out[LIBRARY_CALLS]; /* bits of each call's answer that are not compared; all: it is not made */
+static int stores_apart;
+static unsigned long compared[LIBRARY_CALLS], refused, damaged_calls, total;
+
+/* ---- one call on both */
+
+static void differ(unsigned which, const char *what, uint64_t one, uint64_t other)
+{
+    printf("%s: %s differs: %016llx and %016llx, after %lu calls; %zu letters, capacity %zu, store of %zu bytes\n", library_names[which], what,
+           (unsigned long long)one, (unsigned long long)other, total, size, capacity, length);
+    exit(1);
+}
+
+static void same_bytes(unsigned which, const char *what, uint8_t *const *bytes, size_t n)
+{
+    if (n == 0 || memcmp(bytes[0], bytes[1], n) == 0) return;
+    size_t i = 0;
+    while (bytes[0][i] == bytes[1][i]) i++;
+    printf("byte %zu of %zu: ", i, n);
+    differ(which, what, bytes[0][i], bytes[1][i]);
+}
+
+static uint64_t same_answer(unsigned which, const uint64_t *answers)
+{
+    uint64_t shown = ~left_out[which];
+    total++;
+    compared[which]++;
+    refused += (answers[0] & 0xff) != 0;
+    if ((answers[0] ^ answers[1]) & shown) differ(which, "the answer", answers[0], answers[1]);
+    return answers[0];
+}
+
+static void lend(uint8_t **to, int slot, size_t n, uint8_t filling)
+{
+    for (int i = 0; i < 2; i++) {
+        to[i] = guard_room(slot + i, n);
+        memset(to[i], filling, n);
+    }
+}
+
+static uint64_t make(const call *c)
+{
+    unsigned which = 1 + c->kind;
+    uint64_t answers[2];
+    if (left_out[which] == UINT64_MAX) return 0xff;
+    text = guarded(TEXT_SLOT, c->text, c->text_length);
+    lend(outs, OUT_SLOT, c->out_length, 0x5a);
+    lend(scratches, SCRATCH_SLOT, c->scratch_length, 0xa5);
+    for (int i = 0; i < 2; i++) {
+        buffers lent = {text, scratches[i], outs[i]};
+        answers[i] = call_make(&both[i], stores[i], length, c, &lent);
+    }
+    if (!stores_apart) same_bytes(which, "the store", stores, length);
+    same_bytes(which, "the output", outs, c->out_length);
+    same_bytes(which, "the scratch", scratches, c->scratch_length);
+    if (c->text_length > 0 && memcmp(text, c->text, c->text_length) != 0) differ(which, "the text lent", 0, 1);
+    return same_answer(which, answers);
+}
+
+/* the letters as the accepted calls make them; only arguments are chosen by them */
+static void follow(const call *c, uint64_t answer)
+{
+    int left = c->kind == ADD_LEFT || c->kind == REMOVE_LEFT;
+    if ((answer & 0xff) != 0 || c->kind > REMOVE_RIGHT) return;
+    if (c->kind >= REMOVE_LEFT) {
+        size--;
+        if (left) memmove(letters, letters + 1, size);
+        return;
+    }
+    if (left) memmove(letters + 1, letters, size);
+    letters[left ? 0 : size++] = (unsigned char)c->number;
+    size += (size_t)left;
+}
+
+/* ---- arguments */
+
+static uint64_t some_letter(unsigned alphabet)
+{
+    static const uint64_t none[] = {'N', 'U', 'a', 0, 255, 'A' + 256, 'C' + (1ull << 32), 'G' + (1ull << 63)};
+    return random_below(30) ? (uint64_t)"ACGT"[random_below(alphabet)] : none[random_below(sizeof none / sizeof none[0])];
+}
+
+static uint64_t some_number(size_t about)
+{
+    unsigned kind = random_below(20);
+    return kind == 0 ? (1ull << 32) + random_below(4) : kind == 1 ? UINT64_MAX - random_below(3) : random_below((unsigned)about + 3);
+}
+
+/* the stretch around a centre as far as it mirrors, a bit more or less, or any letters; its length */
+static size_t some_piece(unsigned char *piece)
+{
+    size_t from = random_below((unsigned)size + 1), to = from + random_below(2), n;
+    while (from > 0 && to < size && letters[from - 1] == letters[to]) from--, to++;
+    if (to > size) to = size;
+    if (random_below(3) == 0 && to - from >= 2) from++, to--;
+    n = to > from ? to - from : 0;
+    memcpy(piece, letters + from, n);
+    if (random_below(6) == 0) n = random_below(random_below(4) ? 6 : (unsigned)size + 4);
+    if (random_below(6) == 0)
+        for (size_t i = 0; i < n; i++) piece[i] = (unsigned char)"ACGT"[random_below(4)];
+    for (size_t i = 0; i < n; i++)
+        if (!piece[i]) piece[i] = 'A';
+    if (n > 0 && random_below(12) == 0) piece[random_below((unsigned)n)] = (unsigned char)random_below(256);
+    return n;
+}
+
+static size_t some_name(unsigned char *name)
+{
+    size_t n = random_below(10) ? 1 + random_below(32) : random_below(36);
+    for (size_t i = 0; i < n; i++) name[i] = (unsigned char)"azAZ09_e"[random_below(8)];
+    if (n > 0 && random_below(10) == 0) name[random_below((unsigned)n)] = (unsigned char)random_below(256);
+    return n;
+}
+
+static call some_call(call_kind kind, unsigned alphabet)
+{
+    static unsigned char bytes[PIECE];
+    call c = {kind, 0, bytes, 0, 0, 0};
+    memset(bytes, 0, sizeof bytes);
+    if (kind <= ADD_RIGHT) c.number = some_letter(alphabet);
+    if (kind == LETTER) c.number = some_number(size);
+    if (kind == ROW || kind == SPELL) c.number = some_number(capacity);
+    if (kind == SPELL) c.out_length = random_below((unsigned)size + 3);
+    if (kind == FIND) c.text_length = some_piece(bytes);
+    if (kind == LIST) {
+        c.text_length = some_name(bytes);
+        c.scratch_length = MIRROR_LIST_SCRATCH(size) + random_below(4) - (size > 0 && random_below(12) == 0);
+        c.out_length = random_below(12) ? MIRROR_LIST_SIZE(size) : random_below((unsigned)MIRROR_LIST_SIZE(size) + 1);
+    }
+    return c;
+}
+
+/* spelling and listing again, into as many bytes as they wrote and into one fewer */
+static void tighten(call *c, uint64_t answer)
+{
+    size_t wrote = answer >> 32 & 0xffff;
+    if ((answer & 0xff) != 0 || (c->kind != SPELL && c->kind != LIST)) return;
+    c->out_length = wrote;
+    make(c);
+    if (wrote == 0) return;
+    c->out_length = wrote - 1;
+    make(c);
+}
+
+/* ---- sittings */
+
+static void fill(size_t n)
+{
+    length = n;
+    for (int i = 0; i < 2; i++) stores[i] = guard_room(STORE_SLOT + i, n);
+    for (size_t i = 0; i < n; i++) stores[0][i] = stores[1][i] = (uint8_t)random_below(256);
+}
+
+/* 1 where the record is open: stores of any bytes, a few refused openings among them */
+static int open_both(uint64_t wanted)
+{
+    uint64_t answers[2];
+    for (int i = 0; i < 2; i++) answers[i] = both[i].open(stores[i], length, wanted);
+    if (!stores_apart) same_bytes(OPEN, "the store", stores, length);
+    if (same_answer(OPEN, answers) != 0) return 0;
+    capacity = wanted;
+    size = 0;
+    return 1;
+}
+
+static unsigned long budget;
+
+/* additions and removals at both ends, more of one, then of the other, and between them every question */
+static void sitting(size_t wanted, unsigned alphabet)
+{
+    fill(MIRROR_STORE_SIZE(wanted) + random_below(EXTRA));
+    open_both(random_below(2) ? 0 : MOST + 1 + random_below(3));
+    open_both(wanted + length / 48);
+    if (!open_both(wanted)) return;
+    unsigned turns = 20 + random_below(6 * (unsigned)wanted + 40), phase = 1 + random_below(2 * (unsigned)wanted + 8);
+    for (unsigned i = 0; i < turns && total < budget; i++) {
+        int growing = i / phase % 2 == 0 ? random_below(8) != 0 : random_below(8) == 0;
+        int asks = random_below(5) < 2;
+        call_kind kind = asks ? LENGTH + random_below(CALL_KINDS - LENGTH) : (growing ? ADD_LEFT : REMOVE_LEFT) + random_below(2);
+        call c = some_call(kind, alphabet);
+        uint64_t answer = make(&c);
+        follow(&c, answer);
+        tighten(&c, answer);
+    }
+}
+
+/* ---- damage */
+
+/* a few bytes or cells of the store changed, in both alike */
+static void spoil_bytes(void)
+{
+    size_t used = 25 * capacity + 48;
+    for (unsigned k = 1 + random_below(3); k > 0; k--) {
+        size_t at = random_below(4) ? random_below((unsigned)used) : random_below((unsigned)length), from = random_below((unsigned)used);
+        stores[0][at] = random_below(2) ? (uint8_t)random_below(256) : stores[0][from];
+    }
+    if (random_below(16) == 0) length -= 1 + random_below(EXTRA + 2);
+}
+
+/* The store of the sitting is damaged, in a way of damages.c while it is small, and gets every call. */
+static void spoil(unsigned alphabet)
+{
+    static uint8_t kept[MIRROR_STORE_SIZE(MOST) + EXTRA], bad[MIRROR_STORE_SIZE(MOST) + EXTRA];
+    static shown s;
+    size_t whole = length, kept_size = size;
+    unsigned long made_before = total;
+    memcpy(kept, stores[0], whole);
+    if (size > SMALL || random_below(3) == 0 || judge(stores[0], length, &s) != NULL) spoil_bytes();
+    else damages[random_below((unsigned)damage_kinds)].make(stores[0], &length, &s);
+    memcpy(bad, stores[0], whole);
+    for (call_kind kind = 0; kind < CALL_KINDS; kind++) {
+        for (int i = 0; i < 2; i++) memcpy(stores[i], bad, whole);
+        call c = some_call(kind, alphabet);
+        tighten(&c, make(&c));
+    }
+    damaged_calls += total - made_before;
+    length = whole;
+    size = kept_size;
+    for (int i = 0; i < 2; i++) memcpy(stores[i], kept, whole);
+}
+
+/* ---- FASTA texts */
+
+static void read_text(void)
+{
+    static uint8_t bytes[FASTA_MOST];
+    size_t n = random_below(12) ? fasta_good(bytes) : random_below(200), room = random_below(3) ? MOST : random_below(MOST + 8);
+    uint64_t answers[2];
+    if (left_out[FASTA] == UINT64_MAX) return;
+    for (unsigned slips = random_below(4); slips > 0; slips--) n = fasta_slip(bytes, n);
+    text = guarded(TEXT_SLOT, bytes, n);
+    for (int again = 0; again < 2; again++) {
+        lend(outs, OUT_SLOT, room, 0x5a);
+        for (int i = 0; i < 2; i++) answers[i] = both[i].fasta(text, n, outs[i], room);
+        same_bytes(FASTA, "the output", outs, room);
+        if (memcmp(text, bytes, n) != 0) differ(FASTA, "the text lent", 0, 1);
+        uint64_t answer = same_answer(FASTA, answers);
+        if ((answer & 0xff) != 0) return;
+        room = (answer >> 48) - (answer >> 48 != 0); /* once more with a byte less than it wrote */
+    }
+}
+
+/* ---- all of it */
+
+static size_t some_capacity(void)
+{
+    unsigned kind = random_below(100);
+    return kind < 30 ? 1 + random_below(6) : kind < 70 ? 1 + random_below(SMALL) : kind < 97 ? 1 + random_below(100) : kind < 99 ? 1 + random_below(MOST) : MOST;
+}
+
+static void run(void)
+{
+    while (total < budget) {
+        unsigned alphabet = 1 + random_below(4);
+        guard_at(random_below(2) ? GUARD_BEFORE : GUARD_AFTER);
+        sitting(some_capacity(), alphabet);
+        for (unsigned i = 0; !stores_apart && i < 6; i++) spoil(alphabet);
+        for (unsigned i = 0; i < 20; i++) read_text();
+    }
+}
+
+static void leave_out(const char *what)
+{
+    static const struct { const char *name; uint64_t bits; } fields[] = {{"flag", 0xff00}, {"row", 0xffff0000}, {"first", 0xffffull << 32}, {"second", 0xffffull << 48}};
+    char name[32] = "";
+    const char *dot = strchr(what, '.');
+    uint64_t bits = dot ? 0 : UINT64_MAX;
+    snprintf(name, sizeof name, "%.*s", dot ? (int)(dot - what) : 31, what);
+    for (size_t i = 0; dot && i < 4; i++)
+        if (strcmp(dot + 1, fields[i].name) == 0) bits = fields[i].bits;
+    unsigned which = library_call(name);
+    if (strcmp(what, "store") == 0) stores_apart = 1;
+    else if (which != LIBRARY_CALLS && which != OPEN && bits != 0) left_out[which] |= bits;
+    else {
+        fprintf(stderr, "versions: %s is no call that can be left out, and no field of one\n", what);
+        exit(2);
+    }
+}
+
+static void load(char **paths)
+{
+    unsigned char has[2][LIBRARY_CALLS];
+    for (int i = 0; i < 2; i++) library_load(&both[i], paths[i], has[i]);
+    for (unsigned c = 0; c < LIBRARY_CALLS; c++) {
+        if (has[0][c] && has[1][c]) continue;
+        printf("%s is not in both: left out\n", library_names[c]);
+        left_out[c] = UINT64_MAX;
+    }
+}
+
+int main(int argc, char **argv)
+{
+    if (argc < 5) {
+        fprintf(stderr, "usage: versions ONE.so OTHER.so SEED CALLS [LEFT OUT..]\n");
+        return 2;
+    }
+    load(argv + 1);
+    for (int i = 5; i < argc; i++) leave_out(argv[i]);
+    random_seed(argv[3], 0);
+    fasta_seed(strtoull(argv[3], NULL, 10));
+    budget = strtoul(argv[4], NULL, 10);
+    run();
+    printf("seed %s:", argv[3]);
+    for (unsigned c = 0; c < LIBRARY_CALLS; c++) printf(" %s %lu", library_names[c], compared[c]);
+    printf("\n%lu calls gave equal answers and left equal bytes, %lu of them refused, %lu on damaged stores\n", total, refused, damaged_calls);
+    return 0;
+}
