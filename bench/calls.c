@@ -3,12 +3,14 @@
 
 #include <string.h>
 
-#include "../include/mirror.h"
 #include "twin.h"
 #include "words.h"
 
-#define BOTH(name, args)                                                     \
-    static uint64_t library_##name(struct sitting *s) { return mirror_##name args; } \
+const library linked_library = LIBRARY_OF_THIS_PROGRAM;
+const library *measured = &linked_library;
+
+#define BOTH(name, args)                                                               \
+    static uint64_t library_##name(struct sitting *s) { return measured->name args; } \
     static uint64_t plain_##name(struct sitting *s) { return twin_##name args; }
 
 static const uint8_t identifier[] = "chr1_sample";

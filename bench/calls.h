@@ -7,6 +7,8 @@
 #include <stddef.h>
 #include <stdint.h>
 
+#include "../tests/library.h"
+
 enum { CAPACITY_MOST = 1024, STORE_MOST = 48 * CAPACITY_MOST + 256, OUT_MOST = 45 * CAPACITY_MOST };
 enum { SCRATCH_MOST = 4 * CAPACITY_MOST, CALLS = 15, PAIRS = 16 };
 
@@ -23,6 +25,9 @@ struct call {
     uint64_t (*library)(struct sitting *);
     uint64_t (*twin)(struct sitting *);
 };
+
+/* The library whose calls are run: the one that the program is linked with, until another is put in its place. */
+extern const library linked_library, *measured;
 
 /* The calls, and last the spelling call once more beside a twin that loops instead of recursing. */
 extern const struct call calls[PAIRS];

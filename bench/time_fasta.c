@@ -7,26 +7,12 @@
 #include "twin.h"
 #include "words.h"
 
-enum { LETTERS = 1024, LINE = 60 };
+enum { LETTERS = FASTA_MOST };
 
-static uint8_t text[2 * LETTERS], out[LETTERS], other[LETTERS];
+static uint8_t text[2 * LETTERS + 6], out[LETTERS], other[LETTERS];
 static volatile uint64_t sink;
 
 typedef uint64_t reader(const uint8_t *text, size_t length, uint8_t *out, size_t out_length);
-
-static size_t make_text(int word, size_t n)
-{
-    uint8_t letters[LETTERS];
-    size_t length = 4;
-    memcpy(text, ">e1\n", 4);
-    make_word(word, letters, n);
-    for (size_t i = 0; i < n; i++) {
-        text[length++] = letters[i];
-        if (i % LINE == LINE - 1 || i == n - 1)
-            text[length++] = '\n';
-    }
-    return length;
-}
 
 static int64_t sample(reader *run, uint8_t *into, size_t length)
 {
@@ -37,7 +23,7 @@ static int64_t sample(reader *run, uint8_t *into, size_t length)
 
 struct pair time_fasta(int word, size_t n, int samples)
 {
-    size_t length = make_text(word, n);
+    size_t length = make_fasta(word, text, n);
     int64_t cost = clock_cost(), library = INT64_MAX, twin = INT64_MAX;
     for (int i = 0; i < samples; i++) {
         library = smaller(library, sample(mirror_fasta, out, length));

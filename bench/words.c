@@ -2,6 +2,8 @@
  * as letters and long chains; the Thue-Morse word lies between. */
 #include "words.h"
 
+#include <string.h>
+
 const char *const word_names[WORDS] = {"random", "all-A", "(AC)*", "Fibonacci", "Thue-Morse"};
 
 uint32_t next_random(uint32_t *state)
@@ -43,4 +45,18 @@ void make_word(int which, uint8_t *out, size_t n)
         else
             out[i] = __builtin_parityl(i) ? 'C' : 'A';
     }
+}
+
+size_t make_fasta(int which, uint8_t *out, size_t n)
+{
+    uint8_t letters[FASTA_MOST];
+    size_t length = 4;
+    memcpy(out, ">e1\n", length);
+    make_word(which, letters, n);
+    for (size_t i = 0; i < n; i++) {
+        out[length++] = letters[i];
+        if (i % FASTA_LINE == FASTA_LINE - 1 || i == n - 1)
+            out[length++] = '\n';
+    }
+    return length;
 }

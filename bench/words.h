@@ -11,6 +11,10 @@ extern const char *const word_names[WORDS];
 /* Writes the first n letters of a word. */
 void make_word(int which, uint8_t *out, size_t n);
 
+/* Writes a FASTA text of n letters of a word, at most FASTA_MOST, in lines of 60; its length, which is below 2n + 6. */
+enum { FASTA_LINE = 60, FASTA_MOST = 1024 };
+size_t make_fasta(int which, uint8_t *out, size_t n);
+
 /* The next number of a sequence that is the same in every run. */
 uint32_t next_random(uint32_t *state);
 

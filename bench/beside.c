@@ -1,0 +1,150 @@
+/* Today's library beside that of another revision, in one run: every call on five words of 1,000 letters, the two in turn,
+ * on records that each made with its own calls. The smallest of many samples counts. Where a library happens to lie in
+ * memory moves a short call by several per cent, so several copies of each are loaded, a round on each pair. Prints ratios,
+ * today over the other, for each call and word and for each call over its five words (the geometric mean), and last the
+ * largest of these: that one figure says whether a call got slower.
+ *
+ *     beside FOLDER [LIMIT]        FOLDER/today-1.so, FOLDER/other-1.so, today-2.so and so on, COPIES of each;
+ *                                  ends with 1 if that figure is above the limit */
+#include <math.h>
+#include <stdio.h>
+#include <stdlib.h>
+#include <string.h>
+
+#include "calls.h"
+#include "clock.h"
+#include "words.h"
+
+enum { LETTERS = 1000, CAPACITY = LETTERS + 24, COPIES = 8, ROUNDS = 8 * COPIES, SAMPLES = 60, OPEN = 0, FASTA = CALLS, ALL = CALLS + 1 };
+
+static library copies[COPIES][2], *sides = copies[0];
+static unsigned char has[2][LIBRARY_CALLS];
+static struct sitting records[2][WORDS], s;
+static uint8_t fasta_text[2 * LETTERS + 6];
+static size_t fasta_length;
+static int64_t least[ALL][WORDS][2];
+static volatile uint64_t sink;
+
+/* A record of the word made by a library's own calls, with arguments that make each call work hard: the row and the piece
+ * are those of the longest palindrome. */
+static void make_record(struct sitting *to, const library *by, int word)
+{
+    uint8_t letters[LETTERS + 1];
+    make_word(word, letters, LETTERS + 1);
+    to->length = MIRROR_STORE_SIZE(CAPACITY);
+    to->scratch_length = sizeof to->scratch;
+    to->out_length = sizeof to->out;
+    to->capacity = CAPACITY;
+    to->letter = letters[LETTERS];
+    to->place = LETTERS / 2;
+    by->open(to->store, to->length, CAPACITY);
+    for (size_t i = 0; i < LETTERS; i++)
+        by->add_right(to->store, to->length, letters[i]);
+    uint64_t longest = by->longest(to->store, to->length);
+    to->piece_length = mirror_first(longest);
+    memcpy(to->piece, letters + mirror_second(longest), to->piece_length);
+    to->row = mirror_row_of(by->find(to->store, to->length, to->piece, to->piece_length));
+}
+
+/* Opening and reading FASTA are short, and can be done again at once. */
+static int times_of(int call) { return call == OPEN || call == FASTA ? 10 : 1; }
+
+/* One call of one library. Both work in the same bytes, which hold that library's record before each sample. */
+static int64_t sample(int call, int word, int side)
+{
+    measured = &sides[side];
+    memcpy(s.store, records[side][word].store, s.length);
+    int64_t from = now_ns();
+    for (int i = times_of(call); i > 0; i--)
+        sink = call == FASTA ? measured->fasta(fasta_text, fasta_length, s.out, s.out_length) : calls[call].library(&s);
+    return now_ns() - from;
+}
+
+static void measure(int call, int word)
+{
+    s = records[0][word];
+    fasta_length = make_fasta(word, fasta_text, LETTERS);
+    for (int i = 0; i < SAMPLES; i++)
+        for (int turn = 0; turn < 2; turn++) {
+            int side = (i + turn) % 2;
+            s.row = records[side][word].row;
+            int64_t took = sample(call, word, side), *to = &least[call][word][side];
+            *to = *to == 0 ? took : smaller(*to, took);
+        }
+}
+
+/* calls[] has the calls of the library in its order, without the last, which takes no store */
+static const char *name_of(int call) { return call == FASTA ? "fasta" : calls[call].name; }
+
+static bool in_both(int call)
+{
+    unsigned which = library_call(name_of(call));
+    return has[0][which] && has[1][which];
+}
+
+/* One line for a call: microseconds and ratio on each word, and the ratio over all five. */
+static double print_call(int call, int64_t cost)
+{
+    double product = 1;
+    printf("  %-24s", name_of(call));
+    for (int word = 0; word < WORDS; word++) {
+        double today = (double)(least[call][word][0] - cost), ratio = today / (double)(least[call][word][1] - cost);
+        printf("%6.1f %5.2f ", today / times_of(call) / 1e3, ratio);
+        product *= ratio;
+    }
+    double over_all = pow(product, 1.0 / WORDS);
+    printf("%9.3f\n", over_all);
+    return over_all;
+}
+
+/* Every call; the largest ratio over all words, which is told with its call. */
+static double print_calls(void)
+{
+    double largest = 0;
+    int64_t cost = clock_cost();
+    int of = 0;
+    for (int call = 0; call < ALL; call++) {
+        if (!in_both(call)) {
+            printf("  %-24s  not in both\n", name_of(call));
+            continue;
+        }
+        double ratio = print_call(call, cost);
+        if (ratio > largest)
+            largest = ratio, of = call;
+    }
+    printf("\nThe largest ratio of a call over all words is %.3f (%s)\n", largest, name_of(of));
+    return largest;
+}
+
+/* Loads the copies, and makes the records. */
+static void load(const char *folder)
+{
+    char path[4096];
+    for (int i = 0; i < 2 * COPIES; i++) {
+        snprintf(path, sizeof path, "%s/%s-%d.so", folder, i % 2 ? "other" : "today", i / 2 + 1);
+        library_load(&copies[i / 2][i % 2], path, has[i % 2]);
+    }
+    for (int i = 0; i < 2 * WORDS; i++)
+        make_record(&records[i % 2][i / 2], &sides[i % 2], i / 2);
+}
+
+int main(int count, char **arguments)
+{
+    if (count < 2 || count > 3) {
+        fprintf(stderr, "usage: beside FOLDER [LIMIT]\n");
+        return 2;
+    }
+    load(arguments[1]);
+    for (int round = 0; round < ROUNDS; round++) {
+        sides = copies[round % COPIES];
+        for (int call = 0; call < ALL; call++)
+            for (int word = 0; word < WORDS && in_both(call); word++)
+                measure(call, word);
+    }
+    printf("Calls at 1,000 letters: microseconds of today's library, and their ratio to those of the other revision\n%-26s", "");
+    for (int word = 0; word < WORDS; word++)
+        printf("%13s", word_names[word]);
+    printf("%10s\n", "all");
+    double largest = print_calls();
+    return count == 3 && largest > strtod(arguments[2], NULL);
+}
