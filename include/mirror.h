@@ -1,7 +1,8 @@
 /* Mirror repeats of a DNA record that is worked from both ends: the calls of a host in C.
  *
- * A record lives in a byte store that the host lends with every call. Every call tests the store first, so that a
- * damaged one is refused and never followed. Buffers of one call must not overlap. Nothing is allocated.
+ * A record lives in a byte store that the host lends. Every call that takes a store, but for opening, tests it first, so
+ * that a damaged one is refused and never followed. Opening needs no good store: it makes an empty record of whatever the
+ * bytes held, a live record too. Buffers of one call must not overlap. Nothing is allocated.
  *
  * Every call answers one number: byte 0 (lowest) is the refusal number, 0 where the call was carried out; byte 1 a
  * flag; bytes 2 and 3 a row; bytes 4 and 5 a first, bytes 6 and 7 a second number. A refusal is its number and zero
@@ -18,6 +19,9 @@ extern "C" {
 
 /* The bytes that a store of this capacity (1 to 1,024 letters) needs. */
 #define MIRROR_STORE_SIZE(capacity) (48 * (size_t)(capacity) + 256)
+/* The scratch that a list of so many letters needs, and output that is always enough for it. */
+#define MIRROR_LIST_SCRATCH(letters) (4 * (size_t)(letters))
+#define MIRROR_LIST_SIZE(letters) (45 * (size_t)(letters))
 
 enum {
     MIRROR_CAPACITY = 1,    /* opening: capacity outside 1 to 1,024 */
