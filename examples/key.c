@@ -221,7 +221,7 @@ static void number(struct line *l, size_t at)
 {
     const char *word = l->words[1];
     for (const char *digit = word; *digit; digit++)
-        if (!isdigit((unsigned char)*digit)) stop(", line %zu: '%s' is no number: %s", at, word, l->form->usage);
+        if (!isdigit((unsigned char)*digit)) stop(", line %zu: '%.40s' is no number: %s", at, word, l->form->usage);
     errno = 0;
     l->number = strtoull(word, NULL, 10);
     if (errno == ERANGE) stop(", line %zu: the number is too long", at);

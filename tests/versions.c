@@ -21,7 +21,7 @@ enum { SMALL = 24 }; /* up to so many letters the judge, which damage asks, is f
 
 static library both[2];
 static uint8_t *stores[2], *outs[2], *scratches[2], *text;
-static size_t length, capacity, size;
+static size_t whole, length, capacity, size; /* damage may cut the length that is lent of the whole store */
 static unsigned char letters[MOST + 1];
 static uint64_t left_out[LIBRARY_CALLS]; /* bits of each call's answer that are not compared; all: it is not made */
 static int stores_apart;
@@ -75,7 +75,7 @@ static uint64_t make(const call *c)
         buffers lent = {text, scratches[i], outs[i]};
         answers[i] = call_make(&both[i], stores[i], length, c, &lent);
     }
-    if (!stores_apart) same_bytes(which, "the store", stores, length);
+    if (!stores_apart) same_bytes(which, "the store", stores, whole);
     same_bytes(which, "the output", outs, c->out_length);
     same_bytes(which, "the scratch", scratches, c->scratch_length);
     if (c->text_length > 0 && memcmp(text, c->text, c->text_length) != 0) differ(which, "the text lent", 0, 1);
@@ -93,8 +93,8 @@ static void follow(const call *c, uint64_t answer)
         return;
     }
     if (left) memmove(letters + 1, letters, size);
-    letters[left ? 0 : size++] = (unsigned char)c->number;
-    size += (size_t)left;
+    letters[left ? 0 : size] = (unsigned char)c->number;
+    size++;
 }
 
 /* ---- arguments */
@@ -171,17 +171,17 @@ static void tighten(call *c, uint64_t answer)
 
 static void fill(size_t n)
 {
-    length = n;
+    whole = length = n;
     for (int i = 0; i < 2; i++) stores[i] = guard_room(STORE_SLOT + i, n);
     for (size_t i = 0; i < n; i++) stores[0][i] = stores[1][i] = (uint8_t)random_below(256);
 }
 
-/* 1 where the record is open: stores of any bytes, a few refused openings among them */
+/* 1 where the record is open */
 static int open_both(uint64_t wanted)
 {
     uint64_t answers[2];
     for (int i = 0; i < 2; i++) answers[i] = both[i].open(stores[i], length, wanted);
-    if (!stores_apart) same_bytes(OPEN, "the store", stores, length);
+    if (!stores_apart) same_bytes(OPEN, "the store", stores, whole);
     if (same_answer(OPEN, answers) != 0) return 0;
     capacity = wanted;
     size = 0;
@@ -190,12 +190,16 @@ static int open_both(uint64_t wanted)
 
 static unsigned long budget;
 
-/* additions and removals at both ends, more of one, then of the other, and between them every question */
+/* a store of any bytes, refused openings and an accepted one; then additions and removals at both ends, more of one, then of
+ * the other, and between them every question */
 static void sitting(size_t wanted, unsigned alphabet)
 {
     fill(MIRROR_STORE_SIZE(wanted) + random_below(EXTRA));
     open_both(random_below(2) ? 0 : MOST + 1 + random_below(3));
     open_both(wanted + length / 48);
+    length = MIRROR_STORE_SIZE(wanted) - 1;
+    open_both(wanted);
+    length = whole;
     if (!open_both(wanted)) return;
     unsigned turns = 20 + random_below(6 * (unsigned)wanted + 40), phase = 1 + random_below(2 * (unsigned)wanted + 8);
     for (unsigned i = 0; i < turns && total < budget; i++) {
@@ -214,7 +218,7 @@ static void sitting(size_t wanted, unsigned alphabet)
 /* a few bytes or cells of the store changed, in both alike */
 static void spoil_bytes(void)
 {
-    size_t used = 25 * capacity + 48;
+    size_t used = layout_used(capacity);
     for (unsigned k = 1 + random_below(3); k > 0; k--) {
         size_t at = random_below(4) ? random_below((unsigned)used) : random_below((unsigned)length), from = random_below((unsigned)used);
         stores[0][at] = random_below(2) ? (uint8_t)random_below(256) : stores[0][from];
@@ -227,7 +231,6 @@ static void spoil(unsigned alphabet)
 {
     static uint8_t kept[MIRROR_STORE_SIZE(MOST) + EXTRA], bad[MIRROR_STORE_SIZE(MOST) + EXTRA];
     static shown s;
-    size_t whole = length, kept_size = size;
     unsigned long made_before = total;
     memcpy(kept, stores[0], whole);
     if (size > SMALL || random_below(3) == 0 || judge(stores[0], length, &s) != NULL) spoil_bytes();
@@ -240,19 +243,35 @@ static void spoil(unsigned alphabet)
     }
     damaged_calls += total - made_before;
     length = whole;
-    size = kept_size;
     for (int i = 0; i < 2; i++) memcpy(stores[i], kept, whole);
 }
 
 /* ---- FASTA texts */
 
+/* a full record and a few bytes that mean something behind it */
+static size_t full_text(uint8_t *bytes)
+{
+    size_t n = 3;
+    memcpy(bytes, ">e\n", n);
+    while (n < 3 + MOST) bytes[n++] = (uint8_t)"ACGT"[random_below(4)];
+    for (unsigned more = random_below(5); more > 0; more--) bytes[n++] = (uint8_t)"ACGT>N\r\n"[random_below(8)];
+    return n;
+}
+
+static size_t some_text(uint8_t *bytes)
+{
+    unsigned kind = random_below(20);
+    size_t n = kind == 0 ? full_text(bytes) : kind == 1 ? random_below(200) : fasta_good(bytes); /* 1: of what was there */
+    for (unsigned slips = kind == 0 ? 0 : random_below(4); slips > 0; slips--) n = fasta_slip(bytes, n);
+    return n;
+}
+
 static void read_text(void)
 {
     static uint8_t bytes[FASTA_MOST];
-    size_t n = random_below(12) ? fasta_good(bytes) : random_below(200), room = random_below(3) ? MOST : random_below(MOST + 8);
+    size_t n = some_text(bytes), room = random_below(3) ? MOST : random_below(MOST + 8);
     uint64_t answers[2];
     if (left_out[FASTA] == UINT64_MAX) return;
-    for (unsigned slips = random_below(4); slips > 0; slips--) n = fasta_slip(bytes, n);
     text = guarded(TEXT_SLOT, bytes, n);
     for (int again = 0; again < 2; again++) {
         lend(outs, OUT_SLOT, room, 0x5a);
