@@ -4,7 +4,9 @@
 #include <stdio.h>
 #include <string.h>
 
-static uint8_t store[MIRROR_STORE_SIZE(64)];
+enum { MOST = 64 };
+
+static uint8_t store[MIRROR_STORE_SIZE(MOST)], scratch[MIRROR_LIST_SCRATCH(MOST)], text[MIRROR_LIST_SIZE(MOST)];
 
 static uint64_t must(uint64_t answer)
 {
@@ -15,10 +17,10 @@ static uint64_t must(uint64_t answer)
 /* Opens the record afresh, adds the letters of a FASTA text at the right and prints its list. */
 static void read_fasta(const char *fasta)
 {
-    uint8_t letters[64], scratch[4 * 64], text[2048];
+    uint8_t letters[MOST];
     uint64_t answer = must(mirror_fasta((const uint8_t *)fasta, strlen(fasta), letters, sizeof letters));
 
-    must(mirror_open(store, sizeof store, 64));
+    must(mirror_open(store, sizeof store, MOST));
     for (size_t i = 0; i < mirror_second(answer); i++) must(mirror_add_right(store, sizeof store, letters[i]));
     unsigned n = mirror_first(must(mirror_list(store, sizeof store, (const uint8_t *)fasta + 1, mirror_first(answer), scratch, sizeof scratch, text, sizeof text)));
     fwrite(text, 1, n, stdout);
@@ -26,11 +28,10 @@ static void read_fasta(const char *fasta)
 
 int main(void)
 {
-    uint8_t text[1024], scratch[4 * 64];
     const char *right = "AAG", *left = "GCA";
     uint64_t answer;
 
-    must(mirror_open(store, sizeof store, 64));
+    must(mirror_open(store, sizeof store, MOST));
     for (size_t i = 0; right[i]; i++) must(mirror_add_right(store, sizeof store, (uint64_t)right[i]));
     for (size_t i = 0; left[i]; i++) must(mirror_add_left(store, sizeof store, (uint64_t)left[i]));
     printf("%u letters, %u repeats\n", mirror_first(mirror_length(store, sizeof store)), mirror_first(mirror_count(store, sizeof store)));
