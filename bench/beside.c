@@ -1,6 +1,6 @@
 /* Today's library beside that of another revision, in one run: every call on five words of 1,000 letters, the two in turn,
  * on records that each made with its own calls. The smallest of many samples counts. Where a library happens to lie in
- * memory moves a short call by several per cent, so several copies of each are loaded, a round on each pair. Prints ratios,
+ * memory seems to move a short call by several per cent, so several copies of each are loaded, a round on each pair. Prints ratios,
  * today over the other, for each call and word and for each call over its five words (the geometric mean), and last the
  * largest of these: that one figure says whether a call got slower.
  *
