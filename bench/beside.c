@@ -1,11 +1,12 @@
 /* Today's library beside that of another revision, in one run: every call on five words of 1,000 letters, the two in turn,
  * on records that each made with its own calls. The smallest of many samples counts. Where a library happens to lie in
- * memory seems to move a short call by several per cent, so several copies of each are loaded, a round on each pair. Prints ratios,
- * today over the other, for each call and word and for each call over its five words (the geometric mean), and last the
- * largest of these: that one figure says whether a call got slower.
+ * memory seems to move a short call by several per cent, so several copies of each are loaded, a round on each pair. Prints
+ * ratios, today over the other, for each call and word and for each call over its five words (the geometric mean), and last
+ * the largest of these: that one figure says whether a call got slower.
  *
  *     beside FOLDER [LIMIT]        FOLDER/today-1.so, FOLDER/other-1.so, today-2.so and so on, COPIES of each;
- *                                  ends with 1 if that figure is above the limit */
+ *                                  ends with 1 if that figure is above the limit, or if a call was refused */
+#include <float.h>
 #include <math.h>
 #include <stdio.h>
 #include <stdlib.h>
@@ -23,6 +24,7 @@ static struct sitting records[2][WORDS], s;
 static uint8_t fasta_text[2 * LETTERS + 6];
 static size_t fasta_length;
 static int64_t least[ALL][WORDS][2];
+static bool refused[ALL];
 static volatile uint64_t sink;
 
 /* A record of the word made by a library's own calls, with arguments that make each call work hard: the row and the piece
@@ -57,7 +59,9 @@ static int64_t sample(int call, int word, int side)
     int64_t from = now_ns();
     for (int i = times_of(call); i > 0; i--)
         sink = call == FASTA ? measured->fasta(fasta_text, fasta_length, s.out, s.out_length) : calls[call].library(&s);
-    return now_ns() - from;
+    int64_t took = now_ns() - from;
+    refused[call] |= (sink & 0xff) != 0;
+    return took;
 }
 
 static void measure(int call, int word)
@@ -73,7 +77,7 @@ static void measure(int call, int word)
         }
 }
 
-/* calls[] has the calls of the library in its order, without the last, which takes no store */
+/* calls[] has the calls that take a store */
 static const char *name_of(int call) { return call == FASTA ? "fasta" : calls[call].name; }
 
 static bool in_both(int call)
@@ -93,8 +97,8 @@ static double print_call(int call, int64_t cost)
         product *= ratio;
     }
     double over_all = pow(product, 1.0 / WORDS);
-    printf("%9.3f\n", over_all);
-    return over_all;
+    printf("%9.3f%s\n", over_all, refused[call] ? "  refused!" : "");
+    return refused[call] ? INFINITY : over_all;
 }
 
 /* Every call; the largest ratio over all words, which is told with its call. */
@@ -146,5 +150,5 @@ int main(int count, char **arguments)
         printf("%13s", word_names[word]);
     printf("%10s\n", "all");
     double largest = print_calls();
-    return count == 3 && largest > strtod(arguments[2], NULL);
+    return largest > (count == 3 ? strtod(arguments[2], NULL) : DBL_MAX);
 }

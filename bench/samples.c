@@ -3,7 +3,7 @@
 
 #include "words.h"
 
-enum { LETTERS = 1000, LINE = 60 };
+enum { LETTERS = 1000 };
 
 static int write_word(const char *folder, int word)
 {
@@ -15,8 +15,8 @@ static int write_word(const char *folder, int word)
         return 1;
     make_word(word, letters, LETTERS);
     fprintf(out, ">word_%d %s\n", word + 1, word_names[word]);
-    for (int i = 0; i < LETTERS; i += LINE)
-        fprintf(out, "%.*s\n", LETTERS - i < LINE ? LETTERS - i : LINE, (const char *)letters + i);
+    for (int i = 0; i < LETTERS; i += FASTA_LINE)
+        fprintf(out, "%.*s\n", LETTERS - i < FASTA_LINE ? LETTERS - i : FASTA_LINE, (const char *)letters + i);
     return fclose(out);
 }
 

@@ -1,8 +1,8 @@
 #include "calls.h"
 
-const char *call_name(call_kind kind)
+unsigned call_number(call_kind kind)
 {
-    return library_names[1 + kind];
+    return 1 + kind;
 }
 
 uint64_t call_make(const library *of, uint8_t *store, size_t length, const call *c, const buffers *lent)

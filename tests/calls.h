@@ -1,12 +1,11 @@
-/* One call that takes a good store, as a value: what is called, with which arguments, and with how long buffers. */
+/* One call that tests its store, as a value: what is called, with which arguments, and with how long buffers. */
 #ifndef CALLS_H
 #define CALLS_H
 #include "library.h"
 
-typedef enum {
-    ADD_LEFT, ADD_RIGHT, REMOVE_LEFT, REMOVE_RIGHT, LENGTH, COUNT, LONGEST, LONGEST_LEFT, LONGEST_RIGHT, LETTER, ROW, SPELL,
-    FIND, LIST, CALL_KINDS
-} call_kind;
+/* ADD_LEFT to LIST, in the order of library.h: first what changes the store, then, from LENGTH on, the questions */
+#define CALL_KIND(kind, name) kind,
+typedef enum { EACH_STORE_CALL(CALL_KIND) CALL_KINDS } call_kind;
 
 typedef struct {
     call_kind kind;
@@ -21,7 +20,8 @@ typedef struct {
     uint8_t *text, *scratch, *out;
 } buffers;
 
-const char *call_name(call_kind kind);
+/* The number of the call among all of the library's, of which opening is the first. */
+unsigned call_number(call_kind kind);
 /* Makes the call through a library's table. */
 uint64_t call_make(const library *of, uint8_t *store, size_t length, const call *c, const buffers *lent);
 #endif

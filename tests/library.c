@@ -4,7 +4,7 @@
 #include <stdlib.h>
 #include <string.h>
 
-#define NAME(name) #name,
+#define NAME(kind, name) #name,
 const char *const library_names[LIBRARY_CALLS] = {EACH_CALL(NAME)};
 
 unsigned library_call(const char *name)
@@ -22,6 +22,6 @@ void library_load(library *to, const char *path, unsigned char has[LIBRARY_CALLS
         fprintf(stderr, "%s\n", dlerror());
         exit(2);
     }
-#define LOAD(name) to->name = (__typeof__(to->name))dlsym(handle, "mirror_" #name), has[i++] = to->name != NULL;
+#define LOAD(kind, name) to->name = (__typeof__(to->name))dlsym(handle, "mirror_" #name), has[i++] = to->name != NULL;
     EACH_CALL(LOAD)
 }

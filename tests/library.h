@@ -1,17 +1,20 @@
 /* The library's calls as a table, so that one program can hold two libraries side by side. A new call of include/mirror.h
- * gets its name here. */
+ * gets its name here, and that of its kind for calls.h. */
 #ifndef LIBRARY_H
 #define LIBRARY_H
 #include "mirror.h"
 
-/* the calls that take a good store, in the order of call_kind (calls.h), between opening and FASTA */
-#define EACH_CALL(X)                                                                                              \
-    X(open) X(add_left) X(add_right) X(remove_left) X(remove_right) X(length) X(count) X(longest) X(longest_left) \
-    X(longest_right) X(letter) X(row) X(spell) X(find) X(list) X(fasta)
+/* the calls that test the store that they take */
+#define EACH_STORE_CALL(X)                                                                                        \
+    X(ADD_LEFT, add_left) X(ADD_RIGHT, add_right) X(REMOVE_LEFT, remove_left) X(REMOVE_RIGHT, remove_right)       \
+    X(LENGTH, length) X(COUNT, count) X(LONGEST, longest) X(LONGEST_LEFT, longest_left)                           \
+    X(LONGEST_RIGHT, longest_right) X(LETTER, letter) X(ROW, row) X(SPELL, spell) X(FIND, find) X(LIST, list)
 
-#define LIBRARY_ENTRY(name) __typeof__(mirror_##name) *name;
-#define LIBRARY_ONE(name) +1
-#define LIBRARY_LINKED(name) .name = mirror_##name,
+#define EACH_CALL(X) X(OPEN, open) EACH_STORE_CALL(X) X(FASTA, fasta)
+
+#define LIBRARY_ENTRY(kind, name) __typeof__(mirror_##name) *name;
+#define LIBRARY_ONE(kind, name) +1
+#define LIBRARY_LINKED(kind, name) .name = mirror_##name,
 
 typedef struct {
     EACH_CALL(LIBRARY_ENTRY)

@@ -27,7 +27,7 @@ static const call opening = {CALL_KINDS, 0, NULL, 0, 0, 0};
 
 static void fail(const call *c, const char *what, uint64_t wanted, uint64_t got, size_t length)
 {
-    printf("%s %llu, store of %zu bytes (%s): %s: wanted %llx, got %llx\nstore before:", c == &opening ? "open" : call_name(c->kind), (unsigned long long)c->number,
+    printf("%s %llu, store of %zu bytes (%s): %s: wanted %llx, got %llx\nstore before:", c == &opening ? "open" : library_names[call_number(c->kind)], (unsigned long long)c->number,
            length, verdict ? verdict : "good", what, (unsigned long long)wanted, (unsigned long long)got);
     for (size_t i = 0; i < length && i < 2000; i++) printf(" %02x", before[i]);
     printf("\n");

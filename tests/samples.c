@@ -1,7 +1,8 @@
 /* Holds keys (docs/SITTINGS.md, examples/NAME.key) against a program that tries every stretch: the letters after each
  * call follow from the calls that the key says were accepted, what is asked of the letters alone has the answer that
  * every stretch gives, and a table of rows names every repeat that stands and no other, with the fields that its letters
- * give. It makes no call: that the library answers what the keys say is what tests/key looks at. Usage: samples KEY.. */
+ * give. A dozen sittings, each with a title of its own (##), are the least. It makes no call: that the library answers what
+ * the keys say is what tests/key looks at. Usage: samples KEY.. */
 #include "brute.h"
 #include <ctype.h>
 #include <stdio.h>
@@ -11,9 +12,9 @@
 enum { MOST = 64, CELLS = 8, LINE = 4096 };
 
 static unsigned char plain[256];
-static const char *file;
+static const char *file = "samples";
 static char letters[MOST + 1];
-static int line_number, calls, judged, tables;
+static int line_number, sittings, calls, judged, tables;
 static struct { unsigned row, length, link, inner; char word[MOST + 1]; } rows[MOST];
 static size_t row_count;
 static enum { NONE, CALLS, ROWS } table;
@@ -149,6 +150,7 @@ static void one_line(char *line)
     if (line[0] != '|') {
         if (table == ROWS) check_table();
         table = NONE;
+        sittings += strncmp(line, "## ", 3) == 0;
         return;
     }
     int n = cut(line, cells);
@@ -178,6 +180,7 @@ int main(int argc, char **argv)
 {
     brute_plain(plain);
     for (int i = 1; i < argc; i++) one_key(argv[i]);
-    printf("%d calls, %d of them judged by every stretch, and %d tables of rows in %d keys\n", calls, judged, tables, argc - 1);
-    return argc < 2;
+    if (sittings < 12) fail("sittings", "a dozen", "fewer");
+    printf("%d sittings, %d calls, %d of them judged by every stretch, and %d tables of rows in %d keys\n", sittings, calls, judged, tables, argc - 1);
+    return 0;
 }

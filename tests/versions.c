@@ -65,7 +65,7 @@ static void lend(uint8_t **to, int slot, size_t n, uint8_t filling)
 
 static uint64_t make(const call *c)
 {
-    unsigned which = 1 + c->kind;
+    unsigned which = call_number(c->kind);
     uint64_t answers[2];
     if (left_out[which] == UINT64_MAX) return 0xff;
     text = guarded(TEXT_SLOT, c->text, c->text_length);
@@ -330,6 +330,9 @@ static void load(char **paths)
         printf("%s is not in both: left out\n", library_names[c]);
         left_out[c] = UINT64_MAX;
     }
+    if (left_out[OPEN] == 0) return;
+    fprintf(stderr, "versions: no record can be opened\n");
+    exit(2);
 }
 
 int main(int argc, char **argv)
