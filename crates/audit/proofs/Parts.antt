@@ -1,5 +1,5 @@
 -- The parts of a good store that say nothing of its palindromes: what their tests go by, letter by letter, and that a good store has the roots and the order that are tested.
--- Rests on the laws of a good store (`Rows` of updates).
+-- Rests on the laws of a good store (`Rows` of transitions).
 use Prim.Native.Nat.{ℕ, zero, suc, _+_}
 use native.Mathlib.Omega.{arith}
 use mathlib.Core.Path.{_≡_, sym, ap, _∙_, subst}
@@ -13,7 +13,7 @@ use Rattle.palindromes.proofs.Lists.{either-true}
 use Rattle.eertree.proofs.Rows.{reachOf, link-zero, link-one, inner-zero, inner-one}
 use Rattle.store.specs.Layout.{linkIn, innerIn, outerIn}
 use Rattle.store.specs.Good.{Good}
-use Rattle.updates.proofs.Rows.{covers, length-row}
+use Rattle.transitions.proofs.Rows.{covers, length-row}
 use Rattle.audit.specs.Parts.{ZeroCells, RootsRight, OrderRight}
 
 -- ---- letters

@@ -17,7 +17,7 @@ use Rattle.eertree.specs.Covers.{NodeOf}
 use Rattle.eertree.proofs.Rows.{imaginary-row}
 use Rattle.store.specs.Layout.{capacityIn, countIn, endRow, edgeIn, rankIn, usedIn, lettersIn}
 use Rattle.store.specs.Good.{ruleOf, nodeIn, Good}
-use Rattle.updates.proofs.Rows.{covers, used-root, used-is}
+use Rattle.transitions.proofs.Rows.{covers, used-root, used-is}
 use Rattle.audit.specs.Decides.{Decides}
 use Rattle.audit.specs.Parts.{ZeroCells}
 use Rattle.audit.specs.Tour.{metIn, Toured}

@@ -45,8 +45,8 @@ use Rattle.walk.specs.declared.Walked.the-variants.{At, Nothing}
 use Rattle.walk.proofs.Found.{stored-reach, chain, meets-longest, meets-link}
 use Rattle.walk.proofs.Stores.{store-long, rows-fit}
 use Rattle.alphabet.proofs.Letters.{letter-of}
-use Rattle.updates.proofs.Rows.{covers, used-root, used-is, used-rank, length-row}
-use Rattle.updates.proofs.Start.{Roots, roots-cover}
+use Rattle.transitions.proofs.Rows.{covers, used-root, used-is, used-rank, length-row}
+use Rattle.transitions.proofs.Start.{Roots, roots-cover}
 use Rattle.audit.specs.Parts.{Ready}
 use Rattle.audit.specs.Tour.{metIn, Blank, Toured, Grows, PointsBack, LinkFound, alone, within, Visited}
 use Rattle.audit.specs.declared.tour.Tour.{Tour}

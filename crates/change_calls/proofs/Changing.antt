@@ -16,11 +16,11 @@ use Rattle.palindromes.proofs.Words.{no-letters}
 use Rattle.store.specs.Layout.{capacityIn, sizeIn, endRow, lettersIn}
 use Rattle.store.specs.Good.{ruleOf, Good}
 use Rattle.store.proofs.Sizes.{letters-length}
-use Rattle.updates.specs.Rows.{rowOf, freeRow}
-use Rattle.updates.specs.Opening.{opened}
-use Rattle.updates.specs.Addition.{longestAfter, bringsIn, rowAfter, afterAddition}
-use Rattle.updates.specs.Removal.{longestBefore, takesOut, afterRemoval}
-use Rattle.updates.proofs.Rows.{end-row, end-small, free-row, row-small}
+use Rattle.transitions.specs.Rows.{rowOf, freeRow}
+use Rattle.transitions.specs.Opening.{opened}
+use Rattle.transitions.specs.Addition.{longestAfter, bringsIn, rowAfter, afterAddition}
+use Rattle.transitions.specs.Removal.{longestBefore, takesOut, afterRemoval}
+use Rattle.transitions.proofs.Rows.{end-row, end-small, free-row, row-small}
 use Rattle.outcome.specs.declared.answers.Added.{Added}
 use Rattle.outcome.specs.declared.answers.Removed.{Removed}
 use Rattle.outcome.specs.Reply.{packed, accepted, refusedWith}

@@ -2,7 +2,7 @@
 -- the letter makes the longest palindrome (`met`). That palindrome stood before exactly if the row's edge by the letter leads on (`found-new`, `found-old`); where the walk meets no row there
 -- is none (`found-none`). Of a new palindrome the link is found by a second walk (`link-single`, `link-stepped`), and its length, inner row and outer letter follow (`row-for`).
 -- Last, the writes of the code are those that the definitions name (`added-new`, `added-known`).
--- Rests on `Found`, `Towards` and `Reading` of walk, on the laws of a good store (`Rows` of updates) and on the growth of palindromes.
+-- Rests on `Found`, `Towards` and `Reading` of walk, on the laws of a good store (`Rows` of transitions) and on the growth of palindromes.
 use Prim.Native.Nat.{ℕ, suc, _+_, _*_, _≤_, _<_}
 use native.Mathlib.Omega.{arith}
 use mathlib.Core.Path.{_≡_, refl, sym, ap, _∙_, subst, subst₃}
@@ -43,9 +43,9 @@ use Rattle.walk.proofs.Found.{meets-longest, meets-link}
 use Rattle.walk.proofs.Towards.{longest-towards, longest-towards-added, stands-towards}
 use Rattle.walk.proofs.Stores.{framed-letters, framed-rule}
 use Rattle.walk.proofs.Reading.{covers-read, read-length}
-use Rattle.updates.specs.Rows.{rowOf, freeRow}
-use Rattle.updates.specs.Addition.{longestAfter, bringsIn, rowAfter, hangWrites, settleWrites, additionWrites, afterAddition}
-use Rattle.updates.proofs.Rows.{covers, edges-end, count-most, row-fits, row-of, row-of-empty, edge-row, length-row, free-row}
+use Rattle.transitions.specs.Rows.{rowOf, freeRow}
+use Rattle.transitions.specs.Addition.{longestAfter, bringsIn, rowAfter, hangWrites, settleWrites, additionWrites, afterAddition}
+use Rattle.transitions.proofs.Rows.{covers, edges-end, count-most, row-fits, row-of, row-of-empty, edge-row, length-row, free-row}
 use Rattle.changes.specs.Steps.{Met, RowFor, rowHung, endWrites}
 
 -- ---- words

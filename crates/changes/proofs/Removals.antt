@@ -1,7 +1,7 @@
 -- What a removal finds in a good store, and the bytes that its writes leave. The letters that are left are those read before the last one, so the row of the longest palindrome that ends them is the row
 -- of the end without the letter (`last-row`), and the palindrome at the end goes exactly if its row was not come to (`goes`). A row that goes is no root, and what is read and written of it lies
 -- within the store, before and after the letter has left (`leaf`, `leaf-kept`). Last, the writes of the code are those that the definitions name (`removed-gone`, `removed-kept`).
--- Rests on `Towards` of walk, on the laws of a good store (`Rows` of updates) and on the frame laws of the store.
+-- Rests on `Towards` of walk, on the laws of a good store (`Rows` of transitions) and on the frame laws of the store.
 use Prim.Native.Nat.{ℕ, zero, suc, _+_, _-_, _≤_}
 use native.Mathlib.Omega.{arith}
 use mathlib.Core.Path.{_≡_, refl, sym, ap, _∙_, subst₂}
@@ -29,10 +29,10 @@ use Rattle.store.proofs.Sizes.{rule-inverse, letters-length, used-below}
 use Rattle.walk.specs.Replay.{lettersTowards, Holds, Surveyed}
 use Rattle.walk.proofs.Towards.{towards-removed, longest-towards, stands-towards-test}
 use Rattle.walk.proofs.Stores.{header-fits}
-use Rattle.updates.specs.Rows.{rowOf}
-use Rattle.updates.specs.Removal.{longestBefore, takesOut, dropWrites, leaveWrites, removalWrites, afterRemoval}
-use Rattle.updates.proofs.Letters.{letter-byte}
-use Rattle.updates.proofs.Rows.{covers, used-rank, used-fits, row-fits, row-of, count-most, outer-letter}
+use Rattle.transitions.specs.Rows.{rowOf}
+use Rattle.transitions.specs.Removal.{longestBefore, takesOut, dropWrites, leaveWrites, removalWrites, afterRemoval}
+use Rattle.transitions.proofs.Letters.{letter-byte}
+use Rattle.transitions.proofs.Rows.{covers, used-rank, used-fits, row-fits, row-of, count-most, outer-letter}
 use Rattle.changes.specs.Steps.{Parts, Leaves, endWrites}
 
 module _ {b : Word} (g : Good b) (e : End) where

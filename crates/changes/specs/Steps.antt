@@ -16,9 +16,9 @@ use Rattle.store.specs.declared.rows.Row.{Row}
 use Rattle.walk.specs.Replay.{lettersTowards}
 use Rattle.walk.specs.declared.Walked.{Walked}
 use Rattle.walk.specs.Walk.{Found}
-use Rattle.updates.specs.Rows.{rowOf}
-use Rattle.updates.specs.Addition.{longestAfter, bringsIn}
-use Rattle.updates.specs.Removal.{longestBefore, takesOut}
+use Rattle.transitions.specs.Rows.{rowOf}
+use Rattle.transitions.specs.Addition.{longestAfter, bringsIn}
+use Rattle.transitions.specs.Removal.{longestBefore, takesOut}
 use Rattle.changes.specs.declared.addition.Growth.{Growth}
 use Rattle.changes.specs.declared.addition.Growth.the-variants.{Fresh, Stood}
 use Rattle.changes.specs.declared.removal.Parting.{Parting}

@@ -1,28 +1,16 @@
 // Opening: an empty record of a given capacity, whatever the bytes held.
+use store::bytes;
 use store::cells;
 use store::header;
 use store::letters::Side;
 use store::rows::Row;
 ghost use mathlib.Core.Path.{_≡_};
 ghost use Prim.Native.Nat.{_+_, _*_, _≤_};
-ghost use lib.ListN.{length, replicate};
-ghost use lib.Seq.{sets};
+ghost use lib.ListN.{length};
 ghost use Rattle.palindromes.specs.Refusal.{storeSize};
 ghost use Rattle.store.specs.Writes.{writes};
-ghost use Rattle.updates.specs.Opening.{orderWrites, opened};
+ghost use Rattle.transitions.specs.Opening.{orderWrites, opened};
 ghost use Rattle.changes.specs.Steps.{headWrites};
-
-// Clears the first m bytes.
-fn clear(b: &mut [u8], m: usize)
-    requires { ⌜ m ≤ length (now b) ⌝ }
-    ensures { λ _. ⌜ now (b .exit) ≡ sets (now (b .entry)) 0 (replicate m 0) ⌝ }
-{
-    let mut k = 0;
-    while k < m {
-        b[k] = 0;
-        k += 1;
-    }
-}
 
 // Lists the rows from 2 on in rising order, and gives each its rank.
 fn number(b: &mut [u8], capacity: usize)
@@ -53,7 +41,7 @@ pub fn open(b: &mut [u8], capacity: usize)
     requires { ⌜ (1 ≤ capacity) × (capacity ≤ 1024) × (storeSize capacity ≤ length (now b)) ⌝ }
     ensures { λ _. ⌜ now (b .exit) ≡ opened capacity (now (b .entry)) ⌝ }
 {
-    clear(b, 24 * (capacity + 2) + capacity);
+    bytes::clear(b, 24 * (capacity + 2) + capacity);
     head(b, capacity);
     number(b, capacity);
 }

@@ -17,7 +17,7 @@ ghost use Rattle.store.specs.Good.{Good};
 ghost use Rattle.store.specs.Layout.{sizeIn, endRow, usedIn, lettersIn};
 ghost use Rattle.store.specs.Side.{endOf};
 ghost use Rattle.store.specs.Writes.{writes};
-ghost use Rattle.updates.specs.Removal.{takesOut, dropWrites, afterRemoval};
+ghost use Rattle.transitions.specs.Removal.{takesOut, dropWrites, afterRemoval};
 ghost use Rattle.outcome.specs.Answers.{removedOf};
 ghost use Rattle.changes.specs.Steps.{Parts, Leaves, LeafOf, placesChanged};
 

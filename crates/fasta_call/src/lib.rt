@@ -2,8 +2,7 @@
 // front of the lent buffer, or every byte as it was.
 ghost use mathlib.Core.Path.{_≡_};
 ghost use Rattle.outcome.specs.Reply.{packed};
-ghost use Rattle.outcome.specs.Promise.{FastaPromise};
-ghost use Rattle.fasta_call.specs.Answer.{Small, readingReply};
+ghost use Rattle.fasta_call.specs.Answer.{Small, readingReply, FastaPromise};
 use fasta::Reading;
 use outcome::pack;
 use outcome::refuse;

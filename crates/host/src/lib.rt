@@ -2,8 +2,9 @@
 // side named; its promise holds for all bytes and all numbers.
 ghost use Rattle.palindromes.specs.End.{atLeft, atRight};
 ghost use mathlib.Core.List.{[]};
-ghost use Rattle.palindromes.specs.Refusal.{add, remove, askLength, askCount, askLongest, askLongestAt, askLetter, askRow, spell, find, list};
-ghost use Rattle.outcome.specs.Promise.{lending, nothing, Promise, OpeningPromise, FastaPromise};
+ghost use Rattle.palindromes.specs.Refusal.{ask, add, remove, theLength, theCount, theLongest, theLongestAt, theLetter, theRow, spell, find, list};
+ghost use Rattle.fasta_call.specs.Answer.{FastaPromise};
+ghost use Rattle.outcome.specs.Promise.{lending, nothing, Promise, OpeningPromise};
 use store::letters::Side;
 
 // Opens an empty record of the given capacity.
@@ -49,7 +50,7 @@ pub extern "C" fn mirror_remove_right(store: &mut [u8]) -> u64
 // How many letters stand.
 #[no_mangle]
 pub extern "C" fn mirror_length(store: &[u8]) -> u64
-    ensures { λ r. ⌜ Promise askLength (now (store .entry)) nothing r (now (store .entry)) nothing ⌝ }
+    ensures { λ r. ⌜ Promise (ask theLength) (now (store .entry)) nothing r (now (store .entry)) nothing ⌝ }
 {
     number_calls::length(store)
 }
@@ -57,7 +58,7 @@ pub extern "C" fn mirror_length(store: &[u8]) -> u64
 // How many distinct repeats stand.
 #[no_mangle]
 pub extern "C" fn mirror_count(store: &[u8]) -> u64
-    ensures { λ r. ⌜ Promise askCount (now (store .entry)) nothing r (now (store .entry)) nothing ⌝ }
+    ensures { λ r. ⌜ Promise (ask theCount) (now (store .entry)) nothing r (now (store .entry)) nothing ⌝ }
 {
     number_calls::count(store)
 }
@@ -65,7 +66,7 @@ pub extern "C" fn mirror_count(store: &[u8]) -> u64
 // The longest repeat's length and leftmost place.
 #[no_mangle]
 pub extern "C" fn mirror_longest(store: &[u8]) -> u64
-    ensures { λ r. ⌜ Promise askLongest (now (store .entry)) nothing r (now (store .entry)) nothing ⌝ }
+    ensures { λ r. ⌜ Promise (ask theLongest) (now (store .entry)) nothing r (now (store .entry)) nothing ⌝ }
 {
     number_calls::longest_repeat(store)
 }
@@ -73,7 +74,7 @@ pub extern "C" fn mirror_longest(store: &[u8]) -> u64
 // The longest repeat at the left end: its row, and whether it stands once only.
 #[no_mangle]
 pub extern "C" fn mirror_longest_left(store: &[u8]) -> u64
-    ensures { λ r. ⌜ Promise (askLongestAt atLeft) (now (store .entry)) nothing r (now (store .entry)) nothing ⌝ }
+    ensures { λ r. ⌜ Promise (ask (theLongestAt atLeft)) (now (store .entry)) nothing r (now (store .entry)) nothing ⌝ }
 {
     number_calls::longest_at(store, Side::Left)
 }
@@ -81,7 +82,7 @@ pub extern "C" fn mirror_longest_left(store: &[u8]) -> u64
 // The longest repeat at the right end: its row, and whether it stands once only.
 #[no_mangle]
 pub extern "C" fn mirror_longest_right(store: &[u8]) -> u64
-    ensures { λ r. ⌜ Promise (askLongestAt atRight) (now (store .entry)) nothing r (now (store .entry)) nothing ⌝ }
+    ensures { λ r. ⌜ Promise (ask (theLongestAt atRight)) (now (store .entry)) nothing r (now (store .entry)) nothing ⌝ }
 {
     number_calls::longest_at(store, Side::Right)
 }
@@ -89,7 +90,7 @@ pub extern "C" fn mirror_longest_right(store: &[u8]) -> u64
 // The letter at a place.
 #[no_mangle]
 pub extern "C" fn mirror_letter(store: &[u8], place: u64) -> u64
-    ensures { λ r. ⌜ Promise (askLetter place) (now (store .entry)) nothing r (now (store .entry)) nothing ⌝ }
+    ensures { λ r. ⌜ Promise (ask (theLetter place)) (now (store .entry)) nothing r (now (store .entry)) nothing ⌝ }
 {
     number_calls::letter(store, place)
 }
@@ -97,7 +98,7 @@ pub extern "C" fn mirror_letter(store: &[u8], place: u64) -> u64
 // A row's length, link and inner row.
 #[no_mangle]
 pub extern "C" fn mirror_row(store: &[u8], row: u64) -> u64
-    ensures { λ r. ⌜ Promise (askRow row) (now (store .entry)) nothing r (now (store .entry)) nothing ⌝ }
+    ensures { λ r. ⌜ Promise (ask (theRow row)) (now (store .entry)) nothing r (now (store .entry)) nothing ⌝ }
 {
     number_calls::row(store, row)
 }
@@ -105,7 +106,7 @@ pub extern "C" fn mirror_row(store: &[u8], row: u64) -> u64
 // Writes a row's repeat.
 #[no_mangle]
 pub extern "C" fn mirror_spell(store: &[u8], row: u64, out: &mut [u8]) -> u64
-    ensures { λ r. ⌜ Promise (spell row) (now (store .entry)) (lending [] (now (out .entry))) r (now (store .entry)) (lending [] (now (out .exit))) ⌝ }
+    ensures { λ r. ⌜ Promise (ask (spell row)) (now (store .entry)) (lending [] (now (out .entry))) r (now (store .entry)) (lending [] (now (out .exit))) ⌝ }
 {
     text_calls::spell_row(store, row, out)
 }
@@ -113,7 +114,7 @@ pub extern "C" fn mirror_spell(store: &[u8], row: u64, out: &mut [u8]) -> u64
 // Whether a piece is a repeat of the record, and its row.
 #[no_mangle]
 pub extern "C" fn mirror_find(store: &[u8], piece: &[u8]) -> u64
-    ensures { λ r. ⌜ Promise (find (now (piece .entry))) (now (store .entry)) nothing r (now (store .entry)) nothing ⌝ }
+    ensures { λ r. ⌜ Promise (ask (find (now (piece .entry)))) (now (store .entry)) nothing r (now (store .entry)) nothing ⌝ }
 {
     text_calls::find_piece(store, piece)
 }
@@ -126,7 +127,7 @@ pub extern "C" fn mirror_list(
     scratch: &mut [u8],
     out: &mut [u8],
 ) -> u64
-    ensures { λ r. ⌜ Promise (list (now (identifier .entry))) (now (store .entry)) (lending (now (scratch .entry)) (now (out .entry))) r (now (store .entry)) (lending (now (scratch .exit)) (now (out .exit))) ⌝ }
+    ensures { λ r. ⌜ Promise (ask (list (now (identifier .entry)))) (now (store .entry)) (lending (now (scratch .entry)) (now (out .entry))) r (now (store .entry)) (lending (now (scratch .exit)) (now (out .exit))) ⌝ }
 {
     text_calls::list_repeats(store, identifier, scratch, out)
 }

@@ -13,7 +13,7 @@ use Rattle.palindromes.specs.Place.{standsOnce}
 use Rattle.palindromes.specs.Record.{palindromes, count, least, longestLength, longestPlace}
 use Rattle.palindromes.specs.End.{End, longestAt}
 use Rattle.palindromes.specs.Node.{Node, spelt, lengthOf, linkOf, innerOf}
-use Rattle.palindromes.specs.Refusal.{Call, askLength, askCount, askLongest, askLongestAt, askLetter, askRow, faults, refusal}
+use Rattle.palindromes.specs.Refusal.{Call, ask, theLength, theCount, theLongest, theLongestAt, theLetter, theRow, faults, questionFaults, refusal}
 use Rattle.palindromes.proofs.Words.{no-letters}
 use Rattle.palindromes.proofs.Order.{longest-length-fits, longest-place-is}
 use Rattle.palindromes.proofs.Palindromes.{count-length}
@@ -22,11 +22,11 @@ use Rattle.store.specs.Layout.{sizeIn, usedIn, lettersIn}
 use Rattle.store.specs.Good.{ruleOf, nodeIn, Good}
 use Rattle.store.specs.Lengths.{Stored}
 use Rattle.store.proofs.Sizes.{letters-length}
-use Rattle.updates.specs.Rows.{rowOf}
-use Rattle.updates.specs.Removal.{longestBefore}
-use Rattle.updates.proofs.Rows.{row-of-small, covers}
+use Rattle.transitions.specs.Rows.{rowOf}
+use Rattle.transitions.specs.Removal.{longestBefore}
+use Rattle.transitions.proofs.Rows.{row-of-small, covers}
 use Rattle.outcome.specs.Reply.{packed, accepted, twosComplement}
-use Rattle.outcome.specs.Outcome.{viewIn, acceptedOutcome, changed}
+use Rattle.outcome.specs.Outcome.{viewIn, acceptedOutcome, answerTo, lentAfter, changed}
 use Rattle.outcome.specs.Promise.{nothing, Promise}
 use Rattle.outcome.specs.Verdict.{Verdict, damaged, judged}
 use Rattle.outcome.proofs.Refusals.{length-accepted, count-accepted, longest-none, longest-accepted, longest-at-none, letter-outside, letter-accepted, row-accepted, row-free}
@@ -39,40 +39,40 @@ module _ (b : Word) (g : Good b) where
 
   -- ---- length and count
 
-  pub length-answered : {r : ℕ} → r ≡ packed (accepted false 0 (length (lettersIn b)) 0) → Promise askLength b nothing r b nothing
-  unfolding acceptedOutcome changed
-  length-answered e = carried askLength b nothing g (length-accepted b nothing) (record { reply = e; store = refl; lent = refl })
+  pub length-answered : {r : ℕ} → r ≡ packed (accepted false 0 (length (lettersIn b)) 0) → Promise (ask theLength) b nothing r b nothing
+  unfolding acceptedOutcome answerTo lentAfter changed
+  length-answered e = carried (ask theLength) b nothing g (length-accepted b nothing) (record { reply = e; store = refl; lent = refl })
 
   pub count-few : count (ruleOf b) (lettersIn b) < 65536
   count-few = omega (arith, count-length (ruleOf b) (lettersIn b), few)
 
-  pub count-answered : {r : ℕ} → r ≡ packed (accepted false 0 (count (ruleOf b) (lettersIn b)) 0) → Promise askCount b nothing r b nothing
-  unfolding acceptedOutcome changed
-  count-answered e = carried askCount b nothing g (count-accepted b nothing) (record { reply = e; store = refl; lent = refl })
+  pub count-answered : {r : ℕ} → r ≡ packed (accepted false 0 (count (ruleOf b) (lettersIn b)) 0) → Promise (ask theCount) b nothing r b nothing
+  unfolding acceptedOutcome answerTo lentAfter changed
+  count-answered e = carried (ask theCount) b nothing g (count-accepted b nothing) (record { reply = e; store = refl; lent = refl })
 
   -- ---- verdicts
 
-  pub outside : (i : ℕ) → length (lettersIn b) ≤ i → Verdict (askLetter i) b nothing 7
+  pub outside : (i : ℕ) → length (lettersIn b) ≤ i → Verdict (ask (theLetter i)) b nothing 7
   outside i h = judged g (sym (letter-outside b nothing i h))
 
-  pub inside : (i : ℕ) → i < length (lettersIn b) → Verdict (askLetter i) b nothing 0
+  pub inside : (i : ℕ) → i < length (lettersIn b) → Verdict (ask (theLetter i)) b nothing 0
   inside i h = judged g (sym (letter-accepted b nothing i h))
 
-  pub no-record : length (lettersIn b) ≡ 0 → Verdict askLongest b nothing 6
+  pub no-record : length (lettersIn b) ≡ 0 → Verdict (ask theLongest) b nothing 6
   no-record h = judged g (sym (longest-none b nothing (no-letters (lettersIn b) (omega arith))))
 
-  pub some-record : (length (lettersIn b) ≡ 0 → ⊥) → Verdict askLongest b nothing 0
+  pub some-record : (length (lettersIn b) ≡ 0 → ⊥) → Verdict (ask theLongest) b nothing 0
   some-record h = judged g (sym (longest-accepted b nothing (λ e. h (ap length e))))
 
-  pub unused : (r : ℕ) → usedIn b r ≡ false → Verdict (askRow r) b nothing 7
+  pub unused : (r : ℕ) → usedIn b r ≡ false → Verdict (ask (theRow r)) b nothing 7
   unused r h = judged g (sym (row-free b nothing r h))
 
-  pub used : (r : ℕ) → usedIn b r ≡ true → Verdict (askRow r) b nothing 0
+  pub used : (r : ℕ) → usedIn b r ≡ true → Verdict (ask (theRow r)) b nothing 0
   used r h = judged g (sym (row-accepted b nothing r h))
 
 -- the longest at a side is refused as the longest is
-pub at-side : (e : End) (b : Word) (n : ℕ) → Verdict askLongest b nothing n → Verdict (askLongestAt e) b nothing n
-unfolding refusal faults
+pub at-side : (e : End) (b : Word) (n : ℕ) → Verdict (ask theLongest) b nothing n → Verdict (ask (theLongestAt e)) b nothing n
+unfolding refusal faults questionFaults
 at-side e b n (damaged h z) = damaged h z
 at-side e b n (judged g z) = judged g z
 
@@ -85,34 +85,34 @@ pub record Answerable (call : Call) (b : Word) : Type 0 where
 pub answerable : (call : Call) (b : Word) (n : ℕ) → Verdict call b nothing n → n ≡ 0 → Answerable call b
 answerable call b n v z = let h = cleared call b nothing n v z in record { good = h .0; clear = h .1 }
 
-pub place-inside : (i : ℕ) (b : Word) → Answerable (askLetter i) b → i < length (lettersIn b)
+pub place-inside : (i : ℕ) (b : Word) → Answerable (ask (theLetter i)) b → i < length (lettersIn b)
 place-inside i b a = go (leb (length (lettersIn b)) i) refl
   where
     go : (t : Bool) → leb (length (lettersIn b)) i ≡ t → i < length (lettersIn b)
     go true e = absurd (omega (arith, a .clear, letter-outside b nothing i (leb-true (length (lettersIn b)) i e)))
     go false e = leb-false (length (lettersIn b)) i e
 
-pub letter-answered : (i : ℕ) (b : Word) → Answerable (askLetter i) b → {r : ℕ} → r ≡ packed (accepted false 0 (getD (lettersIn b) i 0) 0) → Promise (askLetter i) b nothing r b nothing
-unfolding acceptedOutcome changed
-letter-answered i b a e = carried (askLetter i) b nothing (a .good) (a .clear) (record { reply = e; store = refl; lent = refl })
+pub letter-answered : (i : ℕ) (b : Word) → Answerable (ask (theLetter i)) b → {r : ℕ} → r ≡ packed (accepted false 0 (getD (lettersIn b) i 0) 0) → Promise (ask (theLetter i)) b nothing r b nothing
+unfolding acceptedOutcome answerTo lentAfter changed
+letter-answered i b a e = carried (ask (theLetter i)) b nothing (a .good) (a .clear) (record { reply = e; store = refl; lent = refl })
 
-pub longest-answered : (b : Word) → Answerable askLongest b → {r : ℕ} → r ≡ packed (accepted false 0 (longestLength (ruleOf b) (lettersIn b)) (longestPlace (ruleOf b) (lettersIn b)))
-    → Promise askLongest b nothing r b nothing
-unfolding acceptedOutcome changed
-longest-answered b a e = carried askLongest b nothing (a .good) (a .clear) (record { reply = e; store = refl; lent = refl })
+pub longest-answered : (b : Word) → Answerable (ask theLongest) b → {r : ℕ} → r ≡ packed (accepted false 0 (longestLength (ruleOf b) (lettersIn b)) (longestPlace (ruleOf b) (lettersIn b)))
+    → Promise (ask theLongest) b nothing r b nothing
+unfolding acceptedOutcome answerTo lentAfter changed
+longest-answered b a e = carried (ask theLongest) b nothing (a .good) (a .clear) (record { reply = e; store = refl; lent = refl })
 
-pub some-letters : (e : End) (b : Word) → Answerable (askLongestAt e) b → 0 < sizeIn b
+pub some-letters : (e : End) (b : Word) → Answerable (ask (theLongestAt e)) b → 0 < sizeIn b
 some-letters e b a = go (leb (sizeIn b) 0) refl
   where
     go : (t : Bool) → leb (sizeIn b) 0 ≡ t → 0 < sizeIn b
     go true x = absurd (omega (arith, a .clear, longest-at-none b nothing e (no-letters (lettersIn b) (omega (arith, letters-length (a .good .sized), leb-true (sizeIn b) 0 x)))))
     go false x = leb-false (sizeIn b) 0 x
 
-pub longest-at-answered : (e : End) (b : Word) → Answerable (askLongestAt e) b → {r : ℕ}
+pub longest-at-answered : (e : End) (b : Word) → Answerable (ask (theLongestAt e)) b → {r : ℕ}
     → r ≡ packed (accepted (standsOnce (longestAt (ruleOf b) e (lettersIn b)) (lettersIn b)) (rowOf b (spelt (longestAt (ruleOf b) e (lettersIn b)))) 0 0)
-    → Promise (askLongestAt e) b nothing r b nothing
-unfolding acceptedOutcome changed longestBefore
-longest-at-answered e b a p = carried (askLongestAt e) b nothing (a .good) (a .clear) (record { reply = p; store = refl; lent = refl })
+    → Promise (ask (theLongestAt e)) b nothing r b nothing
+unfolding acceptedOutcome answerTo lentAfter changed longestBefore
+longest-at-answered e b a p = carried (ask (theLongestAt e)) b nothing (a .good) (a .clear) (record { reply = p; store = refl; lent = refl })
 
 pub row-in-use : (r : ℕ) (b : Word) → Answerable (askRow r) b → usedIn b r ≡ true
 row-in-use r b a = go (usedIn b r) refl
@@ -121,14 +121,14 @@ row-in-use r b a = go (usedIn b r) refl
     go true x = x
     go false x = absurd (omega (arith, a .clear, row-free b nothing r x))
 
-pub row-answered : (q : ℕ) (b : Word) → Answerable (askRow q) b → {r : ℕ}
+pub row-answered : (q : ℕ) (b : Word) → Answerable (ask (theRow q)) b → {r : ℕ}
     → r ≡ packed (accepted false (rowOf b (linkOf (ruleOf b) (nodeIn b q))) (twosComplement (lengthOf (nodeIn b q))) (rowOf b (innerOf (nodeIn b q))))
-    → Promise (askRow q) b nothing r b nothing
-unfolding acceptedOutcome changed
-row-answered q b a p = carried (askRow q) b nothing (a .good) (a .clear) (record { reply = p; store = refl; lent = refl })
+    → Promise (ask (theRow q)) b nothing r b nothing
+unfolding acceptedOutcome answerTo lentAfter changed
+row-answered q b a p = carried (ask (theRow q)) b nothing (a .good) (a .clear) (record { reply = p; store = refl; lent = refl })
 
 -- a row's length is one that a cell can hold
-pub length-stored : (q : ℕ) (b : Word) → Answerable (askRow q) b → (z : ℤ) → z ≡ lengthOf (nodeIn b q) → Stored z
+pub length-stored : (q : ℕ) (b : Word) → Answerable (ask (theRow q)) b → (z : ℤ) → z ≡ lengthOf (nodeIn b q) → Stored z
 length-stored q b a z e =
     record {
       number = reachOf (nodeIn b q);

@@ -1,7 +1,7 @@
 // The host's questions that answer numbers: the length, the count, a letter, the longest repeat, the
 // longest at either end, a row. Each tests its store and its arguments, asks nothing of the caller,
 // and changes no byte.
-ghost use Rattle.palindromes.specs.Refusal.{askLength, askCount, askLongest, askLongestAt, askLetter, askRow};
+ghost use Rattle.palindromes.specs.Refusal.{ask, theLength, theCount, theLongest, theLongestAt, theLetter, theRow};
 ghost use Rattle.store.specs.Side.{endOf};
 ghost use mathlib.Core.Path.{_≡_};
 ghost use Prim.Native.Nat.{_<_};
@@ -19,7 +19,7 @@ use store::letters::Side;
 
 // How many letters stand.
 pub fn length(store: &[u8]) -> u64
-    ensures { λ r. ⌜ Promise askLength (now (store .entry)) nothing r (now (store .entry)) nothing ⌝ }
+    ensures { λ r. ⌜ Promise (ask theLength) (now (store .entry)) nothing r (now (store .entry)) nothing ⌝ }
 {
     if !audit::is_good(store) {
         return refuse(3);
@@ -29,7 +29,7 @@ pub fn length(store: &[u8]) -> u64
 
 // How many distinct repeats stand.
 pub fn count(store: &[u8]) -> u64
-    ensures { λ r. ⌜ Promise askCount (now (store .entry)) nothing r (now (store .entry)) nothing ⌝ }
+    ensures { λ r. ⌜ Promise (ask theCount) (now (store .entry)) nothing r (now (store .entry)) nothing ⌝ }
 {
     if !audit::is_good(store) {
         return refuse(3);
@@ -39,7 +39,7 @@ pub fn count(store: &[u8]) -> u64
 
 // The refusal number of asking a letter, 0 where it can be answered.
 fn judge_letter(store: &[u8], place: u64) -> u64
-    ensures { λ n. ⌜ Verdict (askLetter place) (now (store .entry)) nothing n ⌝ }
+    ensures { λ n. ⌜ Verdict (ask (theLetter place)) (now (store .entry)) nothing n ⌝ }
 {
     if !audit::is_good(store) {
         return 3;
@@ -52,7 +52,7 @@ fn judge_letter(store: &[u8], place: u64) -> u64
 
 // The letter at a place.
 pub fn letter(store: &[u8], place: u64) -> u64
-    ensures { λ r. ⌜ Promise (askLetter place) (now (store .entry)) nothing r (now (store .entry)) nothing ⌝ }
+    ensures { λ r. ⌜ Promise (ask (theLetter place)) (now (store .entry)) nothing r (now (store .entry)) nothing ⌝ }
 {
     let number = judge_letter(store, place);
     if number != 0 {
@@ -68,7 +68,7 @@ pub fn letter(store: &[u8], place: u64) -> u64
 
 // The refusal number of asking the longest repeat, of all or at a side: 0 where it can be answered.
 fn judge_longest(store: &[u8]) -> u64
-    ensures { λ n. ⌜ Verdict askLongest (now (store .entry)) nothing n ⌝ }
+    ensures { λ n. ⌜ Verdict (ask theLongest) (now (store .entry)) nothing n ⌝ }
 {
     if !audit::is_good(store) {
         return 3;
@@ -81,7 +81,7 @@ fn judge_longest(store: &[u8]) -> u64
 
 // The longest repeat's length and leftmost place.
 pub fn longest_repeat(store: &[u8]) -> u64
-    ensures { λ r. ⌜ Promise askLongest (now (store .entry)) nothing r (now (store .entry)) nothing ⌝ }
+    ensures { λ r. ⌜ Promise (ask theLongest) (now (store .entry)) nothing r (now (store .entry)) nothing ⌝ }
 {
     let number = judge_longest(store);
     if number != 0 {
@@ -93,7 +93,7 @@ pub fn longest_repeat(store: &[u8]) -> u64
 
 // The row of the longest repeat at a side, and whether it stands once only.
 pub fn longest_at(store: &[u8], side: Side) -> u64
-    ensures { λ r. ⌜ Promise (askLongestAt (endOf side)) (now (store .entry)) nothing r (now (store .entry)) nothing ⌝ }
+    ensures { λ r. ⌜ Promise (ask (theLongestAt (endOf side))) (now (store .entry)) nothing r (now (store .entry)) nothing ⌝ }
 {
     let number = judge_longest(store);
     if number != 0 {
@@ -105,7 +105,7 @@ pub fn longest_at(store: &[u8], side: Side) -> u64
 
 // The refusal number of asking a row, 0 where it can be answered.
 fn judge_row(store: &[u8], row: u64) -> u64
-    ensures { λ n. ⌜ Verdict (askRow row) (now (store .entry)) nothing n ⌝ }
+    ensures { λ n. ⌜ Verdict (ask (theRow row)) (now (store .entry)) nothing n ⌝ }
 {
     if !audit::is_good(store) {
         return 3;
@@ -130,7 +130,7 @@ fn two_bytes(length: i32) -> usize
 
 // A row's length, link and inner row.
 pub fn row(store: &[u8], row: u64) -> u64
-    ensures { λ r. ⌜ Promise (askRow row) (now (store .entry)) nothing r (now (store .entry)) nothing ⌝ }
+    ensures { λ r. ⌜ Promise (ask (theRow row)) (now (store .entry)) nothing r (now (store .entry)) nothing ⌝ }
 {
     let number = judge_row(store, row);
     if number != 0 {

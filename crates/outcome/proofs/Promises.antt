@@ -9,14 +9,13 @@ use lib.ListN.{length}
 use lib.Seq.{sets}
 use borrow.Author.Tests.{le-ltb}
 use Rattle.palindromes.specs.Word.{Word}
-use Rattle.palindromes.specs.Fasta.{Fasta, refused as faulty, accepted as read, readFasta}
-use Rattle.palindromes.specs.Refusal.{Call, opening, fasta, refusal, fault, fastaFault}
+use Rattle.palindromes.specs.Refusal.{Call, opening, refusal}
 use Rattle.store.specs.Good.{ruleOf, Good}
 use Rattle.outcome.specs.Reply.{packed, refusedWith, accepted}
-use Rattle.outcome.specs.Outcome.{Lent, Outcome, viewIn, outcome, written, fastaReply, fastaLetters, acceptedOutcome, refusedOutcome, fastaOutcome}
-use Rattle.outcome.specs.Promise.{nothing, Left, Promise, OpeningPromise, FastaPromise}
+use Rattle.outcome.specs.Outcome.{Lent, Outcome, viewIn, outcome, acceptedOutcome, refusedOutcome}
+use Rattle.outcome.specs.Promise.{nothing, Left, Promise, OpeningPromise}
 use Rattle.outcome.specs.Verdict.{Verdict, damaged, judged}
-use Rattle.outcome.proofs.Refusals.{fasta-number, carried-out, refused-out}
+use Rattle.outcome.proofs.Refusals.{carried-out, refused-out}
 
 module _ (call : Call) (b : Word) (l : Lent) where
   broken : {r : ℕ} → (Good b → ⊥) → r ≡ packed (refusedWith 3) → Promise call b l r b l
@@ -61,37 +60,3 @@ module _ (k : ℕ) (b : Word) where
 
   pub opening-carried : {r : ℕ} {b′ : Word} → refusal (ruleOf b) (viewIn b nothing) (opening k) ≡ 0 → Left (acceptedOutcome (opening k) b nothing) r b′ nothing → OpeningPromise k b r b′
   opening-carried {r} {b′} e f = record { left = subst (λ (o : Outcome). Left o r b′ nothing) (sym (carried-out (opening k) b nothing e)) f }
-
--- ---- reading a FASTA text
-
-module _ (text out : Word) where
-  abbrev lent : Lent
-  lent = record { scratch = []; out = out }
-
-  -- whatever the outcome is
-  by-outcome : {r : ℕ} {out′ : Word} (o : Outcome) → fastaOutcome text out ≡ o → r ≡ packed (o .reply) → out′ ≡ o .lent .out → FastaPromise text out r out′
-  by-outcome o e p q = record { reply = p ∙ ap (λ (x : Outcome). packed (x .reply)) (sym e); letters = q ∙ ap (λ (x : Outcome). x .lent .out) (sym e) }
-
-  -- a text that is refused with a number leaves its buffer
-  pub by-fasta : (n : ℕ) {r : ℕ} → n ≡ fastaFault (readFasta text) (length out) → (n ≡ 0 → ⊥) → r ≡ packed (refusedWith n) → FastaPromise text out r out
-  unfolding fastaOutcome refusedOutcome
-  by-fasta zero e z p = absurd (z refl)
-  by-fasta (suc n) e z p = by-outcome (refusedOutcome (suc n) [] lent) (refused-out (fasta text) [] lent n (fasta-number [] lent text ∙ sym e)) p refl
-
-  -- a text with a fault
-  pub fasta-faulty : (n : ℕ) {r : ℕ} → readFasta text ≡ faulty n → r ≡ packed (refusedWith n) → FastaPromise text out r out
-  unfolding fastaOutcome refusedOutcome acceptedOutcome fastaFault fastaReply fastaLetters
-  fasta-faulty zero e p =
-      by-outcome (acceptedOutcome (fasta text) [] lent) (carried-out (fasta text) [] lent (fasta-number [] lent text ∙ ap (λ (f : Fasta). fastaFault f (length out)) e))
-      (p ∙ ap (λ (f : Fasta). packed (fastaReply f)) (sym e))
-      (ap (λ (f : Fasta). fastaLetters f out) (sym e))
-  fasta-faulty (suc n) e p = by-fasta (suc n) (ap (λ (f : Fasta). fastaFault f (length out)) (sym e)) (λ z. omega arith) p
-
-  -- a text that is read, with room for its letters
-  pub fasta-read : (n : ℕ) (w : Word) {r : ℕ} {out′ : Word} → readFasta text ≡ read n w → length w ≤ length out → r ≡ packed (accepted false 0 n (length w)) → out′ ≡ sets out 0 w → FastaPromise text out r out′
-  unfolding fastaOutcome acceptedOutcome fastaFault fault fastaReply fastaLetters written
-  fasta-read n w e h p q =
-      let clear : fastaFault (readFasta text) (length out) ≡ 0 = ap (λ (f : Fasta). fastaFault f (length out)) e ∙ ap (fault 9) (le-ltb (length out) (length w) h) in
-      by-outcome (acceptedOutcome (fasta text) [] lent) (carried-out (fasta text) [] lent (fasta-number [] lent text ∙ clear))
-      (p ∙ ap (λ (f : Fasta). packed (fastaReply f)) (sym e))
-      (q ∙ ap (λ (f : Fasta). fastaLetters f out) (sym e))

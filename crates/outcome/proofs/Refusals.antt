@@ -11,28 +11,11 @@ use Rattle.palindromes.specs.Word.{Word, isLetter, allLetters, isEmpty}
 use Rattle.palindromes.specs.End.{End}
 use Rattle.palindromes.specs.Node.{spellingOf}
 use Rattle.palindromes.specs.Bed.{isIdentifier, listing}
-use Rattle.palindromes.specs.Fasta.{readFasta}
-use Rattle.palindromes.specs.Refusal.{Call, opening, add, remove, askLength, askCount, askLongest, askLongestAt, askLetter, askRow, spell, find, list, fasta, fault, firstFault, isFree, spellingLength, storeSize, fastaFault, faults, refusal}
+use Rattle.palindromes.specs.Refusal.{Question, theLength, theCount, theLongest, theLongestAt, theLetter, theRow, spell, find, list, View, questionFaults, Call, opening, add, remove, ask, fault, firstFault, isFree, spellingLength, storeSize, faults, refusal}
 use Rattle.palindromes.proofs.Tests.{non-empty-is}
 use Rattle.store.specs.Layout.{capacityIn, usedIn, lettersIn}
 use Rattle.store.specs.Good.{ruleOf, nodeIn}
 use Rattle.outcome.specs.Outcome.{Lent, viewIn, unlessRefused, outcome, acceptedOutcome, refusedOutcome}
-
--- the call takes a store, so that it may stand in a list
-abbrev pub Stored : Call → Type 0
-Stored (opening k) = Unit {0}
-Stored (add e c) = Unit {0}
-Stored (remove e) = Unit {0}
-Stored askLength = Unit {0}
-Stored askCount = Unit {0}
-Stored askLongest = Unit {0}
-Stored (askLongestAt e) = Unit {0}
-Stored (askLetter i) = Unit {0}
-Stored (askRow r) = Unit {0}
-Stored (spell r) = Unit {0}
-Stored (find p) = Unit {0}
-Stored (list name) = Unit {0}
-Stored (fasta text) = ⊥
 
 -- ---- the first fault
 
@@ -48,11 +31,6 @@ first-not m h [] a e = h (sym e)
 first-not m h (zero ∷ ns) a e = first-not m h ns (a .1) e
 first-not m h (suc n ∷ ns) a e = a .0 e
 
-only-fault : (n : ℕ) → firstFault (n ∷ []) ≡ n
-unfolding firstFault
-only-fault zero = refl
-only-fault (suc n) = refl
-
 -- a row of the table with another number than 3
 other-number : (n : ℕ) (t : Bool) → (n ≡ 3 → ⊥) → fault n t ≡ 3 → ⊥
 unfolding fault
@@ -64,140 +42,139 @@ good-store : fault 3 (not true) ≡ 3 → ⊥
 unfolding fault
 good-store e = omega arith
 
+-- no row that names a question has 3
+none-three : (σ : ℕ → ℕ) (v : View) (q : Question) → NoneIs 3 (questionFaults σ v q)
+unfolding questionFaults
+none-three σ v theLength = tt
+none-three σ v theCount = tt
+none-three σ v theLongest = (other-number 6 _ (omega arith), tt)
+none-three σ v (theLongestAt e) = (other-number 6 _ (omega arith), tt)
+none-three σ v (theLetter i) = (other-number 7 _ (omega arith), tt)
+none-three σ v (theRow r) = (other-number 7 _ (omega arith), tt)
+none-three σ v (spell r) = (other-number 7 _ (omega arith), (other-number 9 _ (omega arith), tt))
+none-three σ v (find p) = (other-number 8 _ (omega arith), (other-number 4 _ (omega arith), tt))
+none-three σ v (list name) = (other-number 10 _ (omega arith), (other-number 9 _ (omega arith), (other-number 9 _ (omega arith), tt)))
+
 -- a good store refuses no call with 3, nor does an opening
-pub never-three : (b : Word) (l : Lent) (call : Call) → Stored call → refusal (ruleOf b) (viewIn b l) call ≡ 3 → ⊥
+pub never-three : (b : Word) (l : Lent) (call : Call) → refusal (ruleOf b) (viewIn b l) call ≡ 3 → ⊥
 unfolding refusal faults viewIn
-never-three b l (opening k) h e = first-not 3 (omega arith) _ (other-number 1 _ (omega arith), (other-number 2 _ (omega arith), tt)) e
-never-three b l (add end c) h e = first-not 3 (omega arith) _ (good-store, (other-number 4 _ (omega arith), (other-number 5 _ (omega arith), tt))) e
-never-three b l (remove end) h e = first-not 3 (omega arith) _ (good-store, (other-number 6 _ (omega arith), tt)) e
-never-three b l askLength h e = first-not 3 (omega arith) _ (good-store, tt) e
-never-three b l askCount h e = first-not 3 (omega arith) _ (good-store, tt) e
-never-three b l askLongest h e = first-not 3 (omega arith) _ (good-store, (other-number 6 _ (omega arith), tt)) e
-never-three b l (askLongestAt end) h e = first-not 3 (omega arith) _ (good-store, (other-number 6 _ (omega arith), tt)) e
-never-three b l (askLetter i) h e = first-not 3 (omega arith) _ (good-store, (other-number 7 _ (omega arith), tt)) e
-never-three b l (askRow r) h e = first-not 3 (omega arith) _ (good-store, (other-number 7 _ (omega arith), tt)) e
-never-three b l (spell r) h e = first-not 3 (omega arith) _ (good-store, (other-number 7 _ (omega arith), (other-number 9 _ (omega arith), tt))) e
-never-three b l (find p) h e = first-not 3 (omega arith) _ (good-store, (other-number 8 _ (omega arith), (other-number 4 _ (omega arith), tt))) e
-never-three b l (list name) h e = first-not 3 (omega arith) _ (good-store, (other-number 10 _ (omega arith), (other-number 9 _ (omega arith), (other-number 9 _ (omega arith), tt)))) e
-never-three b l (fasta text) h e = absurd h
+never-three b l (opening k) e = first-not 3 (omega arith) _ (other-number 1 _ (omega arith), (other-number 2 _ (omega arith), tt)) e
+never-three b l (add end c) e = first-not 3 (omega arith) _ (good-store, (other-number 4 _ (omega arith), (other-number 5 _ (omega arith), tt))) e
+never-three b l (remove end) e = first-not 3 (omega arith) _ (good-store, (other-number 6 _ (omega arith), tt)) e
+never-three b l (ask q) e = first-not 3 (omega arith) _ (good-store, none-three _ _ q) e
 
 -- ---- when a call is carried out
 
 module _ (b : Word) (l : Lent) where
   pub add-letter : (e : End) (c : ℕ) → isLetter c ≡ false → refusal (ruleOf b) (viewIn b l) (add e c) ≡ 4
-  unfolding refusal faults viewIn firstFault fault
+  unfolding refusal faults questionFaults viewIn firstFault fault
   add-letter e c h = rw h
 
   pub add-full : (e : End) (c : ℕ) → isLetter c ≡ true → capacityIn b ≤ length (lettersIn b) → refusal (ruleOf b) (viewIn b l) (add e c) ≡ 5
-  unfolding refusal faults viewIn firstFault fault
+  unfolding refusal faults questionFaults viewIn firstFault fault
   add-full e c h k = rw (h, le-leb (capacityIn b) (length (lettersIn b)) k)
 
   pub add-accepted : (e : End) (c : ℕ) → isLetter c ≡ true → length (lettersIn b) < capacityIn b → refusal (ruleOf b) (viewIn b l) (add e c) ≡ 0
-  unfolding refusal faults viewIn firstFault fault
+  unfolding refusal faults questionFaults viewIn firstFault fault
   add-accepted e c h k = rw (h, lt-leb (capacityIn b) (length (lettersIn b)) k)
 
   pub remove-empty : (e : End) → lettersIn b ≡ [] → refusal (ruleOf b) (viewIn b l) (remove e) ≡ 6
-  unfolding refusal faults viewIn firstFault fault isEmpty
+  unfolding refusal faults questionFaults viewIn firstFault fault isEmpty
   remove-empty e h = rw h
 
   pub remove-accepted : (e : End) → (lettersIn b ≡ [] → ⊥) → refusal (ruleOf b) (viewIn b l) (remove e) ≡ 0
-  unfolding refusal faults viewIn firstFault fault
+  unfolding refusal faults questionFaults viewIn firstFault fault
   remove-accepted e h = rw (non-empty-is (lettersIn b) h)
 
-  pub find-accepted : (w : Word) → (w ≡ [] → ⊥) → allLetters w ≡ true → refusal (ruleOf b) (viewIn b l) (find w) ≡ 0
-  unfolding refusal faults viewIn firstFault fault
+  pub find-accepted : (w : Word) → (w ≡ [] → ⊥) → allLetters w ≡ true → refusal (ruleOf b) (viewIn b l) (ask (find w)) ≡ 0
+  unfolding refusal faults questionFaults viewIn firstFault fault
   find-accepted w h k = rw (non-empty-is w h, k)
 
-  pub row-accepted : (r : ℕ) → usedIn b r ≡ true → refusal (ruleOf b) (viewIn b l) (askRow r) ≡ 0
-  unfolding refusal faults viewIn firstFault fault isFree
+  pub row-accepted : (r : ℕ) → usedIn b r ≡ true → refusal (ruleOf b) (viewIn b l) (ask (theRow r)) ≡ 0
+  unfolding refusal faults questionFaults viewIn firstFault fault isFree
   row-accepted r h = rw h
 
-  pub row-free : (r : ℕ) → usedIn b r ≡ false → refusal (ruleOf b) (viewIn b l) (askRow r) ≡ 7
-  unfolding refusal faults viewIn firstFault fault isFree
+  pub row-free : (r : ℕ) → usedIn b r ≡ false → refusal (ruleOf b) (viewIn b l) (ask (theRow r)) ≡ 7
+  unfolding refusal faults questionFaults viewIn firstFault fault isFree
   row-free r h = rw h
 
-  pub spell-free : (r : ℕ) → usedIn b r ≡ false → refusal (ruleOf b) (viewIn b l) (spell r) ≡ 7
-  unfolding refusal faults viewIn firstFault fault isFree
+  pub spell-free : (r : ℕ) → usedIn b r ≡ false → refusal (ruleOf b) (viewIn b l) (ask (spell r)) ≡ 7
+  unfolding refusal faults questionFaults viewIn firstFault fault isFree
   spell-free r h = rw h
 
-  pub length-accepted : refusal (ruleOf b) (viewIn b l) askLength ≡ 0
-  unfolding refusal faults viewIn firstFault fault
+  pub length-accepted : refusal (ruleOf b) (viewIn b l) (ask theLength) ≡ 0
+  unfolding refusal faults questionFaults viewIn firstFault fault
   length-accepted = refl
 
-  pub count-accepted : refusal (ruleOf b) (viewIn b l) askCount ≡ 0
-  unfolding refusal faults viewIn firstFault fault
+  pub count-accepted : refusal (ruleOf b) (viewIn b l) (ask theCount) ≡ 0
+  unfolding refusal faults questionFaults viewIn firstFault fault
   count-accepted = refl
 
-  pub longest-none : lettersIn b ≡ [] → refusal (ruleOf b) (viewIn b l) askLongest ≡ 6
-  unfolding refusal faults viewIn firstFault fault isEmpty
+  pub longest-none : lettersIn b ≡ [] → refusal (ruleOf b) (viewIn b l) (ask theLongest) ≡ 6
+  unfolding refusal faults questionFaults viewIn firstFault fault isEmpty
   longest-none h = rw h
 
-  pub longest-accepted : (lettersIn b ≡ [] → ⊥) → refusal (ruleOf b) (viewIn b l) askLongest ≡ 0
-  unfolding refusal faults viewIn firstFault fault
+  pub longest-accepted : (lettersIn b ≡ [] → ⊥) → refusal (ruleOf b) (viewIn b l) (ask theLongest) ≡ 0
+  unfolding refusal faults questionFaults viewIn firstFault fault
   longest-accepted h = rw (non-empty-is (lettersIn b) h)
 
-  pub longest-at-none : (e : End) → lettersIn b ≡ [] → refusal (ruleOf b) (viewIn b l) (askLongestAt e) ≡ 6
-  unfolding refusal faults viewIn firstFault fault isEmpty
+  pub longest-at-none : (e : End) → lettersIn b ≡ [] → refusal (ruleOf b) (viewIn b l) (ask (theLongestAt e)) ≡ 6
+  unfolding refusal faults questionFaults viewIn firstFault fault isEmpty
   longest-at-none e h = rw h
 
-  pub letter-outside : (i : ℕ) → length (lettersIn b) ≤ i → refusal (ruleOf b) (viewIn b l) (askLetter i) ≡ 7
-  unfolding refusal faults viewIn firstFault fault
+  pub letter-outside : (i : ℕ) → length (lettersIn b) ≤ i → refusal (ruleOf b) (viewIn b l) (ask (theLetter i)) ≡ 7
+  unfolding refusal faults questionFaults viewIn firstFault fault
   letter-outside i h = rw (le-leb (length (lettersIn b)) i h)
 
-  pub letter-accepted : (i : ℕ) → i < length (lettersIn b) → refusal (ruleOf b) (viewIn b l) (askLetter i) ≡ 0
-  unfolding refusal faults viewIn firstFault fault
+  pub letter-accepted : (i : ℕ) → i < length (lettersIn b) → refusal (ruleOf b) (viewIn b l) (ask (theLetter i)) ≡ 0
+  unfolding refusal faults questionFaults viewIn firstFault fault
   letter-accepted i h = rw (lt-leb (length (lettersIn b)) i h)
 
-  pub spell-short : (r : ℕ) → usedIn b r ≡ true → length (l .out) < length (spellingOf (nodeIn b r)) → refusal (ruleOf b) (viewIn b l) (spell r) ≡ 9
-  unfolding refusal faults viewIn firstFault fault isFree spellingLength
+  pub spell-short : (r : ℕ) → usedIn b r ≡ true → length (l .out) < length (spellingOf (nodeIn b r)) → refusal (ruleOf b) (viewIn b l) (ask (spell r)) ≡ 9
+  unfolding refusal faults questionFaults viewIn firstFault fault isFree spellingLength
   spell-short r h k = rw (h, lt-ltb (length (l .out)) (length (spellingOf (nodeIn b r))) k)
 
-  pub spell-accepted : (r : ℕ) → usedIn b r ≡ true → length (spellingOf (nodeIn b r)) ≤ length (l .out) → refusal (ruleOf b) (viewIn b l) (spell r) ≡ 0
-  unfolding refusal faults viewIn firstFault fault isFree spellingLength
+  pub spell-accepted : (r : ℕ) → usedIn b r ≡ true → length (spellingOf (nodeIn b r)) ≤ length (l .out) → refusal (ruleOf b) (viewIn b l) (ask (spell r)) ≡ 0
+  unfolding refusal faults questionFaults viewIn firstFault fault isFree spellingLength
   spell-accepted r h k = rw (h, le-ltb (length (l .out)) (length (spellingOf (nodeIn b r))) k)
 
-  pub find-empty : (w : Word) → w ≡ [] → refusal (ruleOf b) (viewIn b l) (find w) ≡ 8
-  unfolding refusal faults viewIn firstFault fault isEmpty
+  pub find-empty : (w : Word) → w ≡ [] → refusal (ruleOf b) (viewIn b l) (ask (find w)) ≡ 8
+  unfolding refusal faults questionFaults viewIn firstFault fault isEmpty
   find-empty w h = rw h
 
-  pub find-letters : (w : Word) → (w ≡ [] → ⊥) → allLetters w ≡ false → refusal (ruleOf b) (viewIn b l) (find w) ≡ 4
-  unfolding refusal faults viewIn firstFault fault
+  pub find-letters : (w : Word) → (w ≡ [] → ⊥) → allLetters w ≡ false → refusal (ruleOf b) (viewIn b l) (ask (find w)) ≡ 4
+  unfolding refusal faults questionFaults viewIn firstFault fault
   find-letters w h k = rw (non-empty-is w h, k)
 
-  pub list-name : (name : Word) → isIdentifier name ≡ false → refusal (ruleOf b) (viewIn b l) (list name) ≡ 10
-  unfolding refusal faults viewIn firstFault fault
+  pub list-name : (name : Word) → isIdentifier name ≡ false → refusal (ruleOf b) (viewIn b l) (ask (list name)) ≡ 10
+  unfolding refusal faults questionFaults viewIn firstFault fault
   list-name name h = rw h
 
-  pub list-scratch : (name : Word) → isIdentifier name ≡ true → length (l .scratch) < 4 * length (lettersIn b) → refusal (ruleOf b) (viewIn b l) (list name) ≡ 9
-  unfolding refusal faults viewIn firstFault fault
+  pub list-scratch : (name : Word) → isIdentifier name ≡ true → length (l .scratch) < 4 * length (lettersIn b) → refusal (ruleOf b) (viewIn b l) (ask (list name)) ≡ 9
+  unfolding refusal faults questionFaults viewIn firstFault fault
   list-scratch name h k = rw (h, lt-ltb (length (l .scratch)) (4 * length (lettersIn b)) k)
 
   pub list-out : (name : Word) → isIdentifier name ≡ true → 4 * length (lettersIn b) ≤ length (l .scratch) → length (l .out) < length (listing (ruleOf b) name (lettersIn b))
-      → refusal (ruleOf b) (viewIn b l) (list name) ≡ 9
-  unfolding refusal faults viewIn firstFault fault
+      → refusal (ruleOf b) (viewIn b l) (ask (list name)) ≡ 9
+  unfolding refusal faults questionFaults viewIn firstFault fault
   list-out name h k m = rw (h, le-ltb (length (l .scratch)) (4 * length (lettersIn b)) k, lt-ltb (length (l .out)) (length (listing (ruleOf b) name (lettersIn b))) m)
 
   pub list-accepted : (name : Word) → isIdentifier name ≡ true → 4 * length (lettersIn b) ≤ length (l .scratch) → length (listing (ruleOf b) name (lettersIn b)) ≤ length (l .out)
-      → refusal (ruleOf b) (viewIn b l) (list name) ≡ 0
-  unfolding refusal faults viewIn firstFault fault
+      → refusal (ruleOf b) (viewIn b l) (ask (list name)) ≡ 0
+  unfolding refusal faults questionFaults viewIn firstFault fault
   list-accepted name h k m = rw (h, le-ltb (length (l .scratch)) (4 * length (lettersIn b)) k, le-ltb (length (l .out)) (length (listing (ruleOf b) name (lettersIn b))) m)
 
   pub opening-capacity : (k : ℕ) → (leb 1 k && leb k 1024) ≡ false → refusal (ruleOf b) (viewIn b l) (opening k) ≡ 1
-  unfolding refusal faults viewIn firstFault fault
+  unfolding refusal faults questionFaults viewIn firstFault fault
   opening-capacity k h = rw h
 
   pub opening-short : (k : ℕ) → (leb 1 k && leb k 1024) ≡ true → length b < storeSize k → refusal (ruleOf b) (viewIn b l) (opening k) ≡ 2
-  unfolding refusal faults viewIn firstFault fault
+  unfolding refusal faults questionFaults viewIn firstFault fault
   opening-short k h m = rw (h, lt-ltb (length b) (storeSize k) m)
 
   pub opening-accepted : (k : ℕ) → (leb 1 k && leb k 1024) ≡ true → storeSize k ≤ length b → refusal (ruleOf b) (viewIn b l) (opening k) ≡ 0
-  unfolding refusal faults viewIn firstFault fault
+  unfolding refusal faults questionFaults viewIn firstFault fault
   opening-accepted k h m = rw (h, le-ltb (length b) (storeSize k) m)
-
-  -- a FASTA text has one row of the table, whatever the store
-  pub fasta-number : (text : Word) → refusal (ruleOf b) (viewIn b l) (fasta text) ≡ fastaFault (readFasta text) (length (l .out))
-  unfolding refusal faults viewIn
-  fasta-number text = only-fault (fastaFault (readFasta text) (length (l .out)))
 
 -- ---- what the outcome then is
 
@@ -213,7 +190,7 @@ refused-out call b l n h = ap (λ (m : ℕ). unlessRefused m call b l) h
 
 -- an opening that is not refused has a capacity of 1 to 1,024 and room for it
 pub opening-room : (k : ℕ) (b : Word) (l : Lent) → refusal (ruleOf b) (viewIn b l) (opening k) ≡ 0 → (1 ≤ k) × (k ≤ 1024) × (storeSize k ≤ length b)
-unfolding refusal faults viewIn firstFault fault
+unfolding refusal faults questionFaults viewIn firstFault fault
 opening-room k b l h = go (leb 1 k) (leb k 1024) (ltb (length b) (storeSize k)) refl refl refl h
   where
     go : (p q t : Bool) → leb 1 k ≡ p → leb k 1024 ≡ q → ltb (length b) (storeSize k) ≡ t → firstFault (fault 1 (not (p && q)) ∷ fault 2 t ∷ []) ≡ 0 → (1 ≤ k) × (k ≤ 1024) × (storeSize k ≤ length b)

@@ -3,7 +3,7 @@ use Prim.Native.Nat.{ℕ}
 use mathlib.Core.Path.{_≡_, refl}
 use mathlib.Core.Bool.{Bool, true, false, cond}
 use Rattle.outcome.specs.Reply.{accepted}
-use Rattle.outcome.specs.Answers.{addedOf, addedReply, removedOf, removedReply, foundOf, foundReply}
+use Rattle.outcome.specs.Answers.{addedOf, addedReply, removedOf, removedReply, foundOf, foundReply, foundAnswer}
 
 pub reply-of-added : (new : Bool) (row : ℕ) → addedReply (addedOf new row) ≡ accepted new (cond new row 0) 0 0
 unfolding addedReply
@@ -16,6 +16,6 @@ reply-of-removed true letter row = refl
 reply-of-removed false letter row = refl
 
 pub reply-of-found : (stands : Bool) (row : ℕ) → foundReply (foundOf stands row) ≡ accepted stands (cond stands row 0) 0 0
-unfolding foundReply
+unfolding foundAnswer
 reply-of-found true row = refl
 reply-of-found false row = refl

@@ -1,7 +1,7 @@
 -- DEFINITIONS. What an addition, a removal and a search answer: which case it is, and document 01's number and values for each case. Nothing here is proved.
 use Prim.Native.Nat.{ℕ}
 use mathlib.Core.Bool.{Bool, true, false}
-use Rattle.outcome.specs.Reply.{Reply, accepted}
+use Rattle.outcome.specs.Reply.{Reply, accepted, Answer, answer, answered}
 use Rattle.outcome.specs.declared.answers.Added.{Added}
 use Rattle.outcome.specs.declared.answers.Added.the-variants.{New, Known}
 use Rattle.outcome.specs.declared.answers.Removed.{Removed}
@@ -35,6 +35,9 @@ foundOf true row = At row
 foundOf false row = Absent
 
 -- 01 "answers its row, or absent": the number 0, and 1 and the row, or 0 and row 0
-unfoldable pub foundReply : Found → Reply
-foundReply (At row) = accepted true row 0 0
-foundReply Absent = accepted false 0 0 0
+unfoldable pub foundAnswer : Found → Answer
+foundAnswer (At row) = answer true row 0 0
+foundAnswer Absent = answer false 0 0 0
+
+abbrev pub foundReply : Found → Reply
+foundReply f = answered (foundAnswer f)

@@ -12,16 +12,15 @@ use Rattle.palindromes.specs.Record.{palindromes, count, longestLength, longest
 use Rattle.palindromes.specs.End.{letterAt}
 use Rattle.palindromes.specs.Node.{spelt, lengthOf, linkOf, innerOf, spellingOf}
 use Rattle.palindromes.specs.Bed.{listing}
-use Rattle.palindromes.specs.Fasta.{Fasta, refused, accepted as read, readFasta}
-use Rattle.palindromes.specs.Refusal.{Call, opening, add, remove, askLength, askCount, askLongest, askLongestAt, askLetter, askRow, spell, find, list, fasta, View, refusal}
+use Rattle.palindromes.specs.Refusal.{Question, theLength, theCount, theLongest, theLongestAt, theLetter, theRow, spell, find, list, Call, opening, add, remove, ask, View, refusal}
 use Rattle.store.specs.Layout.{capacityIn, usedIn, lettersIn}
 use Rattle.store.specs.Good.{ruleOf, nodeIn, Good}
-use Rattle.updates.specs.Rows.{rowOf}
-use Rattle.updates.specs.Opening.{opened}
-use Rattle.updates.specs.Addition.{bringsIn, rowAfter, afterAddition}
-use Rattle.updates.specs.Removal.{longestBefore, takesOut, afterRemoval}
-use Rattle.outcome.specs.Reply.{Reply, refusedWith, accepted, twosComplement}
-use Rattle.outcome.specs.Answers.{addedOf, addedReply, removedOf, removedReply, foundOf, foundReply}
+use Rattle.transitions.specs.Rows.{rowOf}
+use Rattle.transitions.specs.Opening.{opened}
+use Rattle.transitions.specs.Addition.{bringsIn, rowAfter, afterAddition}
+use Rattle.transitions.specs.Removal.{longestBefore, takesOut, afterRemoval}
+use Rattle.outcome.specs.Reply.{Reply, refusedWith, accepted, Answer, answer, answered, twosComplement}
+use Rattle.outcome.specs.Answers.{addedOf, addedReply, removedOf, removedReply, foundOf, foundAnswer}
 
 -- the buffers that are lent with a call, beside the store, for it to write to; empty where the call takes none
 pub record Lent : Type 0 where
@@ -59,19 +58,30 @@ changed r b l = record { reply = r; store = b; lent = l }
 unfoldable pub written : Word → Word → Word
 written w out = sets out 0 w
 
--- 01 "The reader answers the identifier's length and the number of letters", with the number 0
-abbrev pub readReply : (identifier letters : ℕ) → Reply
-readReply identifier letters = accepted false 0 identifier letters
+-- what a good store answers to a question, beside the number 0
+unfoldable pub answerTo : Question → Word → Answer
+answerTo theLength b = answer false 0 (length (lettersIn b)) 0
+answerTo theCount b = answer false 0 (count (ruleOf b) (lettersIn b)) 0
+answerTo theLongest b = answer false 0 (longestLength (ruleOf b) (lettersIn b)) (longestPlace (ruleOf b) (lettersIn b))
+answerTo (theLongestAt e) b = answer (standsOnce (longestBefore e b) (lettersIn b)) (rowOf b (spelt (longestBefore e b))) 0 0
+answerTo (theLetter i) b = answer false 0 (getD (lettersIn b) i 0) 0
+answerTo (theRow r) b = answer false (rowOf b (linkOf (ruleOf b) (nodeIn b r))) (twosComplement (lengthOf (nodeIn b r))) (rowOf b (innerOf (nodeIn b r)))
+answerTo (spell r) b = answer false 0 (length (spellingOf (nodeIn b r))) 0
+answerTo (find p) b = foundAnswer (foundOf (member p (palindromes (ruleOf b) (lettersIn b))) (rowOf b (spelt p)))
+answerTo (list name) b = answer false 0 (length (listing (ruleOf b) name (lettersIn b))) 0
 
--- 01 "FASTA": a text that is read answers that of its identifier and its letters; one with a fault, the number of its first fault
-unfoldable pub fastaReply : Fasta → Reply
-fastaReply (refused n) = refusedWith n
-fastaReply (read n w) = readReply n (length w)
-
--- the letters of a text that is read, at the front of the buffer; after a fault the buffer as it was
-unfoldable pub fastaLetters : Fasta → Word → Word
-fastaLetters (refused n) out = out
-fastaLetters (read n w) out = written w out
+-- and what it leaves in the buffers that are lent with it
+unfoldable pub lentAfter : Question → Word → Lent → Lent
+lentAfter theLength b l = l
+lentAfter theCount b l = l
+lentAfter theLongest b l = l
+lentAfter (theLongestAt e) b l = l
+lentAfter (theLetter i) b l = l
+lentAfter (theRow r) b l = l
+lentAfter (spell r) b l = record { scratch = l .scratch; out = written (spellingOf (nodeIn b r)) (l .out) }
+lentAfter (find p) b l = l
+lentAfter (list name) b l =
+    record { scratch = written (replicate (4 * length (lettersIn b)) 0) (l .scratch); out = written (listing (ruleOf b) name (lettersIn b)) (l .out) }
 
 -- an accepted call. 01 "Questions and changes"; a question changes no byte of the store
 unfoldable pub acceptedOutcome : Call → Word → Lent → Outcome
@@ -79,32 +89,7 @@ acceptedOutcome (opening k) b l = changed (accepted false 0 0 0) (opened k b) l
 acceptedOutcome (add e c) b l = changed (addedReply (addedOf (bringsIn e c b) (rowAfter e c b))) (afterAddition e c b) l
 acceptedOutcome (remove e) b l =
     changed (removedReply (removedOf (takesOut e b) (letterAt e (lettersIn b)) (rowOf b (spelt (longestBefore e b))))) (afterRemoval e b) l
-acceptedOutcome askLength b l = changed (accepted false 0 (length (lettersIn b)) 0) b l
-acceptedOutcome askCount b l = changed (accepted false 0 (count (ruleOf b) (lettersIn b)) 0) b l
-acceptedOutcome askLongest b l = changed (accepted false 0 (longestLength (ruleOf b) (lettersIn b)) (longestPlace (ruleOf b) (lettersIn b))) b l
-acceptedOutcome (askLongestAt e) b l =
-    changed (accepted (standsOnce (longestBefore e b) (lettersIn b)) (rowOf b (spelt (longestBefore e b))) 0 0) b l
-acceptedOutcome (askLetter i) b l = changed (accepted false 0 (getD (lettersIn b) i 0) 0) b l
-acceptedOutcome (askRow r) b l =
-    changed
-    (accepted false (rowOf b (linkOf (ruleOf b) (nodeIn b r))) (twosComplement (lengthOf (nodeIn b r))) (rowOf b (innerOf (nodeIn b r))))
-    b
-    l
-acceptedOutcome (spell r) b l =
-    record {
-      reply = accepted false 0 (length (spellingOf (nodeIn b r))) 0;
-      store = b;
-      lent = record { scratch = l .scratch; out = written (spellingOf (nodeIn b r)) (l .out) };
-    }
-acceptedOutcome (find p) b l = changed (foundReply (foundOf (member p (palindromes (ruleOf b) (lettersIn b))) (rowOf b (spelt p)))) b l
-acceptedOutcome (list name) b l =
-    record {
-      reply = accepted false 0 (length (listing (ruleOf b) name (lettersIn b))) 0;
-      store = b;
-      lent = record { scratch = written (replicate (4 * length (lettersIn b)) 0) (l .scratch); out = written (listing (ruleOf b) name (lettersIn b)) (l .out) };
-    }
-acceptedOutcome (fasta text) b l =
-    record { reply = fastaReply (readFasta text); store = b; lent = record { scratch = l .scratch; out = fastaLetters (readFasta text) (l .out) } }
+acceptedOutcome (ask q) b l = record { reply = answered (answerTo q b); store = b; lent = lentAfter q b l }
 
 unfoldable pub unlessRefused : ℕ → Call → Word → Lent → Outcome
 unlessRefused zero call b l = acceptedOutcome call b l
@@ -113,10 +98,6 @@ unlessRefused (suc n) call b l = refusedOutcome (suc n) b l
 -- the outcome of a call on a good store, and of an opening on any: carried out if no row of the table of numbers applies, and else refused
 unfoldable pub outcome : Call → Word → Lent → Outcome
 outcome call b l = unlessRefused (refusal (ruleOf b) (viewIn b l) call) call b l
-
--- 01 "FASTA": the call that reads a text is lent no store and no scratch, only the buffer for the letters
-unfoldable pub fastaOutcome : (text out : Word) → Outcome
-fastaOutcome text out = outcome (fasta text) [] (record { scratch = []; out = out })
 
 -- what a call on a store must come to: 3 first, for a store that is not good; else its outcome
 pub record Answers (call : Call) (b : Word) (l : Lent) (o : Outcome) : Type 0 where

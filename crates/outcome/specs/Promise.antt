@@ -5,7 +5,7 @@ use mathlib.Core.List.{[]}
 use Rattle.palindromes.specs.Word.{Word}
 use Rattle.palindromes.specs.Refusal.{Call, opening}
 use Rattle.outcome.specs.Reply.{packed}
-use Rattle.outcome.specs.Outcome.{Lent, Outcome, outcome, fastaOutcome, Answers}
+use Rattle.outcome.specs.Outcome.{Lent, Outcome, outcome, Answers}
 
 -- the buffers that are lent to a call that writes text: 01 "scratch" and "buffer", each empty where the call takes none
 abbrev pub lending : Word → Word → Lent
@@ -30,8 +30,3 @@ pub record Promise (call : Call) (b : Word) (l : Lent) (r : ℕ) (b′ : Word) (
 -- the same for an opening, which asks nothing of the store's bytes
 pub record OpeningPromise (k : ℕ) (b : Word) (r : ℕ) (b′ : Word) : Type 0 where
   pub left : Left (outcome (opening k) b nothing) r b′ nothing
-
--- the same for reading a FASTA text, which is lent no store: the number r is the packed reply, and the buffer that held `out` holds `out′`
-pub record FastaPromise (text out : Word) (r : ℕ) (out′ : Word) : Type 0 where
-  pub reply : r ≡ packed (fastaOutcome text out .reply)
-  pub letters : out′ ≡ fastaOutcome text out .lent .out

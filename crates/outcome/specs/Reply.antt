@@ -27,6 +27,19 @@ refusedWith n = record { number = n; flag = false; row = 0; first = 0; second = 
 unfoldable pub accepted : Bool → ℕ → ℕ → ℕ → Reply
 accepted flag row first second = record { number = 0; flag = flag; row = row; first = first; second = second }
 
+-- what an accepted question answers, beside the number 0
+pub record Answer : Type 0 where
+  pub flag : Bool
+  pub row : ℕ
+  pub first : ℕ
+  pub second : ℕ
+
+abbrev pub answer : Bool → ℕ → ℕ → ℕ → Answer
+answer flag row first second = record { flag = flag; row = row; first = first; second = second }
+
+abbrev pub answered : Answer → Reply
+answered a = accepted (a .flag) (a .row) (a .first) (a .second)
+
 -- a signed length as a 16-bit two's complement number
 unfoldable pub twosComplement : ℤ → ℕ
 twosComplement (pos n) = n

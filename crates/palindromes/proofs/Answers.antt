@@ -1,7 +1,7 @@
 -- How the answers to the questions grow when a record is read letter by letter from the left: the longest palindrome and its leftmost place follow from those of the record so far
 -- and from the longest palindrome that ends it now; a palindrome stands in the record exactly if it was the longest at the end of some prefix; and the longest at an end stands once only exactly
 -- if it does not stand in the record without that end's letter. So one walk from left to right computes each.
--- Rests on `palindromes-snoc` of `Palindromes`, on the longest palindrome in `Order`, on `at-most-one-new` and `longest-of-prefix` of `Change` and, for the end at the right, on the mirror.
+-- Rests on `palindromes-snoc` of `Palindromes`, on the longest palindrome in `Order`, on `at-most-one-new` of `Change` and, for the end at the right, on the mirror.
 use Prim.Native.Nat.{ℕ, suc, _+_, _-_, _≤_, _<_, max}
 use native.Mathlib.Omega.{arith}
 use mathlib.Core.Path.{_≡_, refl, sym, ap, _∙_, subst, subst₂}
@@ -21,7 +21,7 @@ use Rattle.palindromes.proofs.Tests.{same-true, same-refl}
 use Rattle.palindromes.proofs.Words.{no-letters, suffix-stands, prefix-of-snoc, stands-snoc, stands-or-not}
 use Rattle.palindromes.proofs.Mirror.{mirror-append, mirror-length, mirror-mirror, mirror-removed, suffix-mirror, stands-in-mirror}
 use Rattle.palindromes.proofs.Longest.{longest-suffix, longest-prefix, longest-in-mirror}
-use Rattle.palindromes.proofs.Change.{at-most-one-new, longest-of-prefix}
+use Rattle.palindromes.proofs.Change.{at-most-one-new}
 use Rattle.palindromes.proofs.Lists.{same-test, either-true, left-is, right-is, member-length}
 use Rattle.palindromes.proofs.Places.{starts-is, frequency-cons, stands-true, stands-is, same-place, stands-once-true, stands-once-is}
 use Rattle.palindromes.proofs.Palindromes.{fresh, fresh-old, fresh-new, fresh-empty, longest-palindrome, palindromes-is, palindromes-empty, palindromes-snoc}

@@ -114,12 +114,6 @@ module _ (σ : ℕ → ℕ) where
           (λ q. absurd (omega (arith, f .first u (prefix-trans a (f .begins)) q, simp length-append at (ap length e))))
           (at-most-one-new u w c h (rw e at (suffix-stands (f .ends))))
 
-  -- and each palindrome of a word is the longest that ends one of its prefixes
-  pub longest-of-prefix : {w s : Word} → Symmetric σ w → Stands w s → (p : Word) × Prefix p s × (w ≡ longestSuffix σ p)
-  longest-of-prefix {w} {s} h q =
-      let r = first-end w s q in
-      (r .0, r .1 .begins, first-end-longest h (r .1))
-
 module _ (σ : ℕ → ℕ) (inv : SelfInverse σ) where
   -- the same at either end: a palindrome of the word after an addition is the longest at that end now, or stood before
   pub new-is-longest : (e : End) (s w : Word) (c : ℕ) → Symmetric σ w → Stands w (added e c s) → (w ≡ longestAt σ e (added e c s)) ⊎ Stands w s

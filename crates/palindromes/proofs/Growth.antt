@@ -206,12 +206,6 @@ module _ (σ : ℕ → ℕ) (inv : SelfInverse σ) where
   pub framed-symmetric : (c : ℕ) (u : Word) → Symmetric σ u → Symmetric σ (σ c ∷ u ++ (c ∷ []))
   framed-symmetric c u h = cc (mirror-snoc σ (σ c ∷ u) c, mirror-cons σ (σ c) u, inv c, h)
 
-  -- and back: whatever has one of the three forms is a palindrome that ends s·c
-  pub grown-back : {w : Word} (s : Word) (c : ℕ) → Grown σ c s w → Symmetric σ w × Suffix w (s ++ (c ∷ []))
-  grown-back s c (nothing e) = (rw e (mirror-empty σ), rw e (suffix-empty (s ++ (c ∷ []))))
-  grown-back s c (letter e f) = (rw e (letter-symmetric σ c f), rw e (suffix-append s (c ∷ [])))
-  grown-back s c (framed u e h k) = (rw e (framed-symmetric c u h), rw e (suffix-snoc c k))
-
   -- a hit: the first palindrome on the walk with the partner of c before it grows to the longest
   pub candidate-hit : {c : ℕ} {s u : Word} → Candidate σ c s u → Suffix (σ c ∷ u) s → longestSuffix σ (s ++ (c ∷ [])) ≡ σ c ∷ u ++ (c ∷ [])
   candidate-hit {c} {s} {u} a p =

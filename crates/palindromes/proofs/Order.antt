@@ -211,9 +211,3 @@ module _ (σ : ℕ → ℕ) where
   longest-place-least w s p e c =
       let m = Memᴰ·map (λ p. firstPlace p s) (member-true w (longestOnes s) (longest-ones-is w s p c e)) in
       omega (arith, least-least (firstPlace w s) (map (λ p. firstPlace p s) (longestOnes s)) m, first-place-least w s c)
-
--- in a plain record every letter is a palindrome, so only the empty record has none
-pub plain-count : (s : Word) → (s ≡ [] → ⊥) → 0 < count plain s
-unfolding count mirror
-plain-count [] h = absurd (h refl)
-plain-count (x ∷ s) h = member-length (x ∷ []) (palindromes plain (x ∷ s)) (palindromes-is plain (x ∷ []) (x ∷ s) (record { non-empty = cons-ne-nil x []; symmetric = refl }) (record { before = []; after = s; whole = refl }))

@@ -1,5 +1,5 @@
 -- A record that is filled from a text: each addition leaves one letter more, and at the end it lists what the letters list.
--- Rests on the laws of opening and addition (`updates`). Assumes nothing.
+-- Rests on the laws of opening and addition (`transitions`). Assumes nothing.
 use Prim.Native.Nat.{ℕ, _+_, _*_, _≤_, _<_}
 use native.Mathlib.Omega.{arith}
 use native.Mathlib.Numerals.{add-one}
@@ -15,11 +15,11 @@ use Rattle.palindromes.specs.Bed.{isIdentifier, listing}
 use Rattle.palindromes.specs.Refusal.{storeSize}
 use Rattle.store.specs.Layout.{capacityIn, sizeIn, lettersIn}
 use Rattle.bed.proofs.Listing.{listing-most}
-use Rattle.updates.specs.Opening.{opened}
-use Rattle.updates.specs.Addition.{afterAddition}
-use Rattle.updates.proofs.Opening.{opened-capacity, opened-letters, opened-good}
+use Rattle.transitions.specs.Opening.{opened}
+use Rattle.transitions.specs.Addition.{afterAddition}
+use Rattle.transitions.proofs.Opening.{opened-capacity, opened-letters, opened-good}
 use Rattle.store.proofs.Sizes.{letters-length}
-use Rattle.updates.proofs.Added.{addition}
+use Rattle.transitions.proofs.Added.{addition}
 use Rattle.alphabet.proofs.Letters.{letter-of}
 use Rattle.printing.specs.Filled.{Filled}
 

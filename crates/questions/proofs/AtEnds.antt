@@ -21,7 +21,7 @@ use Rattle.store.specs.Layout.{sizeIn, readingIn, endRow, lettersIn}
 use Rattle.store.specs.Good.{ruleOf, Good}
 use Rattle.store.specs.Writes.{towards}
 use Rattle.store.proofs.Sizes.{rule-inverse, letters-length}
-use Rattle.updates.proofs.Rows.{covers}
+use Rattle.transitions.proofs.Rows.{covers}
 use Rattle.walk.specs.Replay.{lettersTowards, Surveyed}
 use Rattle.walk.proofs.Towards.{towards-removed, longest-towards, stands-towards-test}
 

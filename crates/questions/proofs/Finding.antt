@@ -23,8 +23,8 @@ use Rattle.eertree.specs.Covers.{NodeOf}
 use Rattle.store.specs.Layout.{sizeIn, readingIn, edgeIn, usedIn, lettersIn}
 use Rattle.store.specs.Good.{ruleOf, nodeIn, Good}
 use Rattle.store.proofs.Sizes.{rule-inverse, letters-length}
-use Rattle.updates.specs.Rows.{rowOf}
-use Rattle.updates.proofs.Rows.{covers, row-of}
+use Rattle.transitions.specs.Rows.{rowOf}
+use Rattle.transitions.proofs.Rows.{covers, row-of}
 use Rattle.alphabet.proofs.Letters.{letter-of}
 
 -- the letter at place j of the piece and the one facing it are partners

@@ -25,7 +25,7 @@ use Rattle.eertree.proofs.Rows.{word-row, row-high}
 use Rattle.store.specs.Layout.{sizeIn, rankIn, usedIn, lettersIn}
 use Rattle.store.specs.Good.{ruleOf, nodeIn, Good}
 use Rattle.store.proofs.Sizes.{used-below, letters-length}
-use Rattle.updates.proofs.Rows.{covers, used-rank, count-most}
+use Rattle.transitions.proofs.Rows.{covers, used-rank, count-most}
 use Rattle.walk.specs.Replay.{Holds}
 use Rattle.questions.specs.Marks.{endingIn, ReadTo, ReadOn}
 use Rattle.questions.proofs.Right.{right-first}

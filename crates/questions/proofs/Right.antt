@@ -12,7 +12,7 @@ use Rattle.palindromes.proofs.Longest.{longest-suffix}
 use Rattle.store.specs.Layout.{lettersIn}
 use Rattle.store.specs.Good.{ruleOf, nodeIn, Good}
 use Rattle.store.specs.Writes.{towards}
-use Rattle.updates.proofs.Rows.{covers}
+use Rattle.transitions.proofs.Rows.{covers}
 use Rattle.walk.specs.Replay.{lettersTowards, Holds}
 use Rattle.walk.proofs.Reading.{holds-first}
 use Rattle.questions.specs.Marks.{endingIn}

@@ -1,6 +1,6 @@
 -- What a used row of a good store spells. Rows 0 and 1 spell nothing; any other row spells its outer letter alone where its inner row is row 0, and else what its inner row spells between the
 -- partner of its outer letter and that letter, and so it can be written. The stored length is one more than the number of letters, but for row 0, and falls from a row to its inner row.
--- Rests on the laws of a good store's rows (`Rows` of updates, `Rows` of eertree) and on those of stores (`Parts` of store).
+-- Rests on the laws of a good store's rows (`Rows` of transitions, `Rows` of eertree) and on those of stores (`Parts` of store).
 use Prim.Native.Nat.{ℕ, zero, suc, _+_, _-_, _≤_, _<_}
 use native.Mathlib.Omega.{arith}
 use native.Mathlib.Numerals.{add-one}
@@ -16,8 +16,8 @@ use Rattle.eertree.proofs.Rows.{imaginary-row, inner-falls}
 use Rattle.store.specs.Layout.{cell, lengthIn, innerIn, outerIn, usedIn}
 use Rattle.store.specs.Good.{ruleOf, nodeIn, Good}
 use Rattle.store.proofs.Parts.{sets-snoc, sets-cons}
-use Rattle.updates.proofs.Letters.{letter-byte}
-use Rattle.updates.proofs.Rows.{covers, length-row, outer-letter}
+use Rattle.transitions.proofs.Letters.{letter-byte}
+use Rattle.transitions.proofs.Rows.{covers, length-row, outer-letter}
 
 module _ {b : Word} (g : Good b) (r : ℕ) (u : usedIn b r ≡ true) where
   -- the roots spell nothing

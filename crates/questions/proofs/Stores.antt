@@ -36,7 +36,3 @@ noughts l n i h k =
 -- a word stored behind what stands at the front
 pub written-on : (l m n u v w : Word) (at : ℕ) → m ≡ sets l 0 u → at ≡ length u → n ≡ sets m at v → w ≡ u ++ v → n ≡ sets l 0 w
 written-on l m n u v w at e f h i = cc (sets-append l 0 u v, zero-add (length u))
-
--- noughts may be stored one after the other
-pub noughts-next : (l : Word) (i n : ℕ) → i < n → sets (set l i 0) (i + 1) (replicate (n - (i + 1)) 0) ≡ sets l i (replicate (n - i) 0)
-noughts-next l i n h = let e : n - i ≡ suc (n - (i + 1)) = omega arith in rw (e, add-one)

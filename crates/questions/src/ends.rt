@@ -10,7 +10,7 @@ ghost use Rattle.palindromes.specs.Node.{spelt};
 ghost use Rattle.store.specs.Layout.{sizeIn, lettersIn};
 ghost use Rattle.store.specs.Good.{ruleOf, Good};
 ghost use Rattle.store.specs.Side.{endOf};
-ghost use Rattle.updates.specs.Rows.{rowOf};
+ghost use Rattle.transitions.specs.Rows.{rowOf};
 
 // The row of the longest palindrome at an end, and whether that stands once only.
 pub struct AtEnd {

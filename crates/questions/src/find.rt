@@ -14,7 +14,7 @@ ghost use Rattle.palindromes.specs.Record.{palindromes};
 ghost use Rattle.palindromes.specs.Node.{spelt};
 ghost use Rattle.store.specs.Layout.{lettersIn};
 ghost use Rattle.store.specs.Good.{ruleOf, Good};
-ghost use Rattle.updates.specs.Rows.{rowOf};
+ghost use Rattle.transitions.specs.Rows.{rowOf};
 ghost use Rattle.outcome.specs.Answers.{foundOf};
 
 // The row in the centre of a palindrome of n letters: the empty string's for an even number, the

@@ -2,6 +2,7 @@
 use super::marks::meet;
 use bed::line_length;
 use bed::put_line;
+use store::bytes;
 use store::header;
 use store::rows::Row;
 ghost use mathlib.Core.Path.{_≡_};
@@ -14,18 +15,6 @@ ghost use Rattle.palindromes.specs.Bed.{isIdentifier, listing};
 ghost use Rattle.store.specs.Layout.{sizeIn, lettersIn};
 ghost use Rattle.store.specs.Good.{ruleOf, Good};
 ghost use Rattle.questions.specs.Marks.{ReadTo};
-
-// Makes the first n bytes nought.
-fn clear(bytes: &mut [u8], n: usize)
-    requires { ⌜ n ≤ length (now bytes) ⌝ }
-    ensures { λ _. ⌜ now (bytes .exit) ≡ sets (now (bytes .entry)) 0 (replicate n 0) ⌝ }
-{
-    let mut i = 0;
-    while i < n {
-        bytes[i] = 0;
-        i += 1;
-    }
-}
 
 // Adds up the lengths of the lines, with marks that begin empty.
 fn add_lines(b: &[u8], name: &[u8], marks: &mut [u8]) -> usize
@@ -97,8 +86,8 @@ pub fn list(b: &[u8], name: &[u8], scratch: &mut [u8], out: &mut [u8]) -> usize
     ensures behind { λ r. ⌜ r ≡ length (listing (ruleOf (now (b .entry))) (now (name .entry)) (lettersIn (now (b .entry)))) ⌝ }
 {
     let used = 4 * header::size(b);
-    clear(scratch, used);
+    bytes::clear(scratch, used);
     let at = put_lines(b, name, scratch, out);
-    clear(scratch, used);
+    bytes::clear(scratch, used);
     at
 }

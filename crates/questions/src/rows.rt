@@ -8,7 +8,7 @@ ghost use lib.ListN.{length};
 ghost use Rattle.palindromes.specs.Node.{lengthOf, linkOf, innerOf};
 ghost use Rattle.store.specs.Layout.{usedIn};
 ghost use Rattle.store.specs.Good.{ruleOf, nodeIn, Good};
-ghost use Rattle.updates.specs.Rows.{rowOf};
+ghost use Rattle.transitions.specs.Rows.{rowOf};
 
 // Whether the number is a root's or that of a row in use.
 pub fn is_used(b: &[u8], r: usize) -> bool

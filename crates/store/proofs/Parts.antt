@@ -7,7 +7,7 @@ use native.Mathlib.Omega.{arith}
 use mathlib.Core.Path.{_≡_, refl, sym, ap, _∙_}
 use mathlib.Core.Logic.{_≢_}
 use mathlib.Core.List.{[], _∷_, _++_, append-assoc}
-use lib.ListN.{length, take, drop, getD, set, take-append-drop}
+use lib.ListN.{length, take, drop, getD, set, replicate, take-append-drop}
 use lib.ListN.{length-drop}
 use lib.Seq.{sets, length-sets, ext-getD, sets-eq, set-comm, getD-set-other, getD-drop, take-add, take-suc, drop-cons, take-at, drop-at, length-take-le}
 use Rattle.palindromes.specs.Word.{Word}
@@ -99,3 +99,7 @@ left-step l base k h =
       sets-snoc l base (take k d) k (getD d k 0) size,
       sets-outside l base (take k d) (base + 1 + k) (omega arith),
     )
+
+-- zeros may be stored one after the other
+pub zeros-next : (l : Word) (i n : ℕ) → i < n → sets (set l i 0) (i + 1) (replicate (n - (i + 1)) 0) ≡ sets l i (replicate (n - i) 0)
+zeros-next l i n h = let e : n - i ≡ suc (n - (i + 1)) = omega arith in rw (e, add-one)

@@ -57,6 +57,14 @@ pub fn end_row(b: &[u8], side: Side) -> usize
     cells::get(b, 1, end_cell(side))
 }
 
+// Puts how many letters the record has room for.
+pub fn set_capacity(b: &mut [u8], v: usize)
+    requires { ⌜ 48 ≤ length (now b) ⌝ }
+    ensures { λ _. ⌜ now (b .exit) ≡ setCell (now (b .entry)) 0 8 v ⌝ }
+{
+    cells::put(b, 0, 8, v);
+}
+
 // Puts how many letters stand.
 pub fn set_size(b: &mut [u8], v: usize)
     requires { ⌜ 48 ≤ length (now b) ⌝ }

@@ -7,7 +7,7 @@ ghost use lib.ListN.{length};
 ghost use lib.IntN.{negsuc};
 ghost use Rattle.store.specs.Layout.{lengthIn, linkIn, innerIn, outerIn, edgeIn, edgeCell, orderIn, rankIn, setCell};
 ghost use Rattle.store.specs.Lengths.{Stored};
-ghost use Rattle.store.specs.Writes.{writes, rowWrites};
+ghost use Rattle.store.specs.Writes.{writes, stored, rowWrites};
 
 // What a row says of its palindrome, edges apart: its signed length, the row of its longest proper
 // suffix, the row of what stands between its outer letters, and its last letter.
@@ -120,6 +120,14 @@ pub fn put_row(b: &mut [u8], r: usize, row: Row)
     cells::put(b, r, 3, cells::wide(row.outer));
 }
 
+// Puts the length of row r's palindrome.
+pub fn put_length(b: &mut [u8], r: usize, v: i32)
+    requires { ⌜ (24 * r + 24 ≤ length (now b)) × Stored v ⌝ }
+    ensures { λ _. ⌜ now (b .exit) ≡ setCell (now (b .entry)) r 0 (stored v) ⌝ }
+{
+    cells::put(b, r, 0, lengths::to_stored(v));
+}
+
 // Makes all of row r but its edges what a free row shows.
 pub fn clear_row(b: &mut [u8], r: usize)
     requires { ⌜ 24 * r + 24 ≤ length (now b) ⌝ }
@@ -134,4 +142,20 @@ pub fn put_edge(b: &mut [u8], r: usize, c: u8, q: usize)
     ensures { λ _. ⌜ now (b .exit) ≡ setCell (now (b .entry)) r (edgeCell c) q ⌝ }
 {
     cells::put(b, r, edge_cell(c), q);
+}
+
+// Puts row r at place i of the order.
+pub fn put_order(b: &mut [u8], i: usize, r: usize)
+    requires { ⌜ 24 * (i + 2) + 24 ≤ length (now b) ⌝ }
+    ensures { λ _. ⌜ now (b .exit) ≡ setCell (now (b .entry)) (i + 2) 8 r ⌝ }
+{
+    cells::put(b, i + 2, 8, r);
+}
+
+// Puts the place of row r in the order.
+pub fn put_rank(b: &mut [u8], r: usize, i: usize)
+    requires { ⌜ 24 * r + 24 ≤ length (now b) ⌝ }
+    ensures { λ _. ⌜ now (b .exit) ≡ setCell (now (b .entry)) r 9 i ⌝ }
+{
+    cells::put(b, r, 9, i);
 }

@@ -3,7 +3,7 @@
 // says.
 ghost use mathlib.Core.Path.{_≡_};
 ghost use mathlib.Core.List.{[]};
-ghost use Rattle.palindromes.specs.Refusal.{spell, find, list};
+ghost use Rattle.palindromes.specs.Refusal.{ask, spell, find, list};
 ghost use Rattle.outcome.specs.Promise.{lending, nothing, Promise};
 ghost use Rattle.outcome.specs.Verdict.{Verdict};
 use alphabet::all_letters;
@@ -19,7 +19,7 @@ use questions::spell;
 
 // The refusal number of spelling a row, 0 where it can be spelt.
 fn judge_spell(store: &[u8], row: u64, out: &[u8]) -> u64
-    ensures { λ n. ⌜ Verdict (spell row) (now (store .entry)) (lending [] (now (out .entry))) n ⌝ }
+    ensures { λ n. ⌜ Verdict (ask (spell row)) (now (store .entry)) (lending [] (now (out .entry))) n ⌝ }
 {
     if !audit::is_good(store) {
         return 3;
@@ -35,7 +35,7 @@ fn judge_spell(store: &[u8], row: u64, out: &[u8]) -> u64
 
 // Writes a row's repeat, and answers how many bytes it has.
 pub fn spell_row(store: &[u8], row: u64, out: &mut [u8]) -> u64
-    ensures { λ r. ⌜ Promise (spell row) (now (store .entry)) (lending [] (now (out .entry))) r (now (store .entry)) (lending [] (now (out .exit))) ⌝ }
+    ensures { λ r. ⌜ Promise (ask (spell row)) (now (store .entry)) (lending [] (now (out .entry))) r (now (store .entry)) (lending [] (now (out .exit))) ⌝ }
 {
     let number = judge_spell(store, row, out);
     if number != 0 {
@@ -46,7 +46,7 @@ pub fn spell_row(store: &[u8], row: u64, out: &mut [u8]) -> u64
 
 // The refusal number of finding a piece, 0 where it can be searched.
 fn judge_find(store: &[u8], piece: &[u8]) -> u64
-    ensures { λ n. ⌜ Verdict (find (now (piece .entry))) (now (store .entry)) nothing n ⌝ }
+    ensures { λ n. ⌜ Verdict (ask (find (now (piece .entry)))) (now (store .entry)) nothing n ⌝ }
 {
     if !audit::is_good(store) {
         return 3;
@@ -62,7 +62,7 @@ fn judge_find(store: &[u8], piece: &[u8]) -> u64
 
 // Whether a piece is a repeat of the record, and its row.
 pub fn find_piece(store: &[u8], piece: &[u8]) -> u64
-    ensures { λ r. ⌜ Promise (find (now (piece .entry))) (now (store .entry)) nothing r (now (store .entry)) nothing ⌝ }
+    ensures { λ r. ⌜ Promise (ask (find (now (piece .entry)))) (now (store .entry)) nothing r (now (store .entry)) nothing ⌝ }
 {
     let number = judge_find(store, piece);
     if number != 0 {
@@ -76,7 +76,7 @@ pub fn find_piece(store: &[u8], piece: &[u8]) -> u64
 
 // The refusal number of listing, 0 where the list can be written.
 fn judge_list(store: &[u8], name: &[u8], scratch: &[u8], out: &[u8]) -> u64
-    ensures { λ n. ⌜ Verdict (list (now (name .entry))) (now (store .entry)) (lending (now (scratch .entry)) (now (out .entry))) n ⌝ }
+    ensures { λ n. ⌜ Verdict (ask (list (now (name .entry)))) (now (store .entry)) (lending (now (scratch .entry)) (now (out .entry))) n ⌝ }
 {
     if !audit::is_good(store) {
         return 3;
@@ -95,7 +95,7 @@ fn judge_list(store: &[u8], name: &[u8], scratch: &[u8], out: &[u8]) -> u64
 
 // Writes the list of the repeats, and answers how many bytes it has.
 pub fn list_repeats(store: &[u8], name: &[u8], scratch: &mut [u8], out: &mut [u8]) -> u64
-    ensures { λ r. ⌜ Promise (list (now (name .entry))) (now (store .entry)) (lending (now (scratch .entry)) (now (out .entry))) r (now (store .entry)) (lending (now (scratch .exit)) (now (out .exit))) ⌝ }
+    ensures { λ r. ⌜ Promise (ask (list (now (name .entry)))) (now (store .entry)) (lending (now (scratch .entry)) (now (out .entry))) r (now (store .entry)) (lending (now (scratch .exit)) (now (out .exit))) ⌝ }
 {
     let number = judge_list(store, name, scratch, out);
     if number != 0 {

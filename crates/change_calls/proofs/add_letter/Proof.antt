@@ -1,7 +1,7 @@
 -- `change_calls::add_letter` keeps the promise of an addition. Assumes nothing.
 use borrow.Author.Needs.{needs}
 use native.Mathlib.Omega.{arith}
-use Rattle.updates.proofs.Letters.{letter-byte}
+use Rattle.transitions.proofs.Letters.{letter-byte}
 use Rattle.outcome.proofs.Promises.{by-verdict}
 use Rattle.change_calls.proofs.Changing.{addable, added-fits, added}
 use Rattle.change_calls.proofs.add_letter.Statement.{statement}

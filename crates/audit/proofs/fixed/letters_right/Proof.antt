@@ -14,7 +14,7 @@ use Rattle.store.specs.Layout.{capacityIn, sizeIn, lettersAt, lettersIn}
 use Rattle.store.specs.Good.{Sized}
 use Rattle.store.proofs.Sizes.{letters-length}
 use Rattle.walk.proofs.Stores.{store-long, header-fits}
-use Rattle.updates.proofs.Rows.{letter-at}
+use Rattle.transitions.proofs.Rows.{letter-at}
 use Rattle.audit.proofs.fixed.letters_right.Statement.{statement}
 use Rattle.audit.proofs.fixed.letters_right.Tie as tie
 

@@ -3,7 +3,7 @@ use Prim.Native.Nat.{_+_}
 use native.Mathlib.Omega.{arith}
 use borrow.Author.Needs.{needs}
 use Rattle.walk.proofs.Stores.{header-fits}
-use Rattle.updates.proofs.Rows.{row-fits}
+use Rattle.transitions.proofs.Rows.{row-fits}
 use Rattle.audit.proofs.fixed.place_right.Statement.{statement}
 use Rattle.audit.proofs.fixed.place_right.Tie as tie
 

@@ -7,7 +7,7 @@ use mathlib.Core.Logic.{⊎-elim}
 use lib.ListN.{getD}
 use Rattle.palindromes.specs.Word.{Word}
 use Rattle.store.specs.Layout.{edgeIn}
-use Rattle.updates.proofs.Rows.{row-fits}
+use Rattle.transitions.proofs.Rows.{row-fits}
 use Rattle.audit.specs.Tour.{PointsBack}
 use Rattle.audit.specs.Rows.{EdgeRight, nowhere, there}
 use Rattle.audit.proofs.Decided.{holds, fails}

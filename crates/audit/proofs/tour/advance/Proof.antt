@@ -9,7 +9,7 @@ use Rattle.store.specs.Layout.{capacityIn, sizeIn, lettersAt, lettersIn}
 use Rattle.store.specs.Good.{ruleOf, Sized}
 use Rattle.walk.specs.Walk.{Meets}
 use Rattle.walk.proofs.Stores.{header-fits, store-long}
-use Rattle.updates.proofs.Rows.{letter-at}
+use Rattle.transitions.proofs.Rows.{letter-at}
 use Rattle.audit.proofs.Visit.{seen-within, seen-as, met-chain, tour-grows, tour-none}
 use Rattle.audit.proofs.tour.advance.Statement.{statement}
 use Rattle.audit.proofs.tour.advance.Tie as tie

@@ -11,7 +11,7 @@ use Rattle.store.specs.Layout.{cell, sizeIn, countIn, linkIn, edgeIn, rankIn, l
 use Rattle.store.specs.Good.{Good}
 use Rattle.walk.specs.Walk.{Chain}
 use Rattle.walk.proofs.Stores.{header-fits, rows-fit}
-use Rattle.updates.proofs.Rows.{row-fits}
+use Rattle.transitions.proofs.Rows.{row-fits}
 use Rattle.audit.specs.Parts.{Ready}
 use Rattle.audit.specs.Tour.{Toured, Grows, PointsBack, LinkFound}
 use Rattle.audit.specs.declared.tour.Tour.{Tour}

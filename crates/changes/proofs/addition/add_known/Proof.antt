@@ -7,8 +7,8 @@ use Rattle.palindromes.specs.Node.{lengthOf}
 use Rattle.store.specs.Side.{endOf}
 use Rattle.store.proofs.Signed.{kept}
 use Rattle.walk.proofs.Stores.{header-fits, store-long}
-use Rattle.updates.specs.Addition.{longestAfter}
-use Rattle.updates.proofs.Rows.{used-fits}
+use Rattle.transitions.specs.Addition.{longestAfter}
+use Rattle.transitions.proofs.Rows.{used-fits}
 use Rattle.changes.proofs.Additions.{added-known}
 use Rattle.changes.proofs.addition.add_known.Statement.{statement}
 use Rattle.changes.proofs.addition.add_known.Tie as tie

@@ -7,9 +7,9 @@ use Rattle.palindromes.specs.Node.{lengthOf}
 use Rattle.store.specs.Side.{endOf}
 use Rattle.store.proofs.Signed.{kept}
 use Rattle.walk.proofs.Stores.{header-fits, store-long}
-use Rattle.updates.specs.Rows.{freeRow}
-use Rattle.updates.specs.Addition.{longestAfter}
-use Rattle.updates.proofs.Rows.{used-fits}
+use Rattle.transitions.specs.Rows.{freeRow}
+use Rattle.transitions.specs.Addition.{longestAfter}
+use Rattle.transitions.proofs.Rows.{used-fits}
 use Rattle.changes.proofs.Additions.{place-fits, free-fits, free-is, added-new}
 use Rattle.changes.proofs.addition.add_new.Statement.{statement}
 use Rattle.changes.proofs.addition.add_new.Tie as tie

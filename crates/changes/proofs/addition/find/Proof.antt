@@ -9,7 +9,7 @@ use Rattle.walk.specs.declared.Walked.{Walked}
 use Rattle.walk.specs.declared.Walked.the-variants.{At}
 use Rattle.walk.specs.Replay.{letterTowards}
 use Rattle.walk.proofs.Stores.{header-fits}
-use Rattle.updates.proofs.Rows.{used-fits}
+use Rattle.transitions.proofs.Rows.{used-fits}
 use Rattle.changes.specs.Steps.{Met, RowFor}
 use Rattle.changes.proofs.Additions.{letter-read, longest-met, found-new, found-old, found-none}
 use Rattle.changes.proofs.addition.find.Statement.{statement}

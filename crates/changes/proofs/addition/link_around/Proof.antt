@@ -8,7 +8,7 @@ use Rattle.store.specs.Side.{endOf}
 use Rattle.walk.specs.Walk.{Stepped}
 use Rattle.walk.proofs.Stores.{framed-within}
 use Rattle.walk.proofs.Reading.{good-chain}
-use Rattle.updates.proofs.Rows.{covers, used-fits}
+use Rattle.transitions.proofs.Rows.{covers, used-fits}
 use Rattle.changes.proofs.Additions.{framed, link-single, link-stepped}
 use Rattle.changes.proofs.addition.link_around.Statement.{statement}
 use Rattle.changes.proofs.addition.link_around.Tie as tie

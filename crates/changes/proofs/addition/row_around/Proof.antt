@@ -6,7 +6,7 @@ use lib.IntN.{pos, predℤ}
 use Rattle.store.specs.Layout.{cell, lengthIn}
 use Rattle.store.specs.Side.{endOf}
 use Rattle.store.proofs.Signed.{kept}
-use Rattle.updates.proofs.Rows.{used-fits}
+use Rattle.transitions.proofs.Rows.{used-fits}
 use Rattle.changes.proofs.Additions.{two-more, row-for}
 use Rattle.changes.proofs.addition.row_around.Statement.{statement}
 use Rattle.changes.proofs.addition.row_around.Tie as tie

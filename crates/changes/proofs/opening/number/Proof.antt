@@ -5,7 +5,7 @@ use mathlib.Core.Path.{_≡_, refl}
 use borrow.Author.Needs.{needs}
 use lib.ListN.{length}
 use Rattle.store.specs.Writes.{writes}
-use Rattle.updates.specs.Opening.{orderWrites}
+use Rattle.transitions.specs.Opening.{orderWrites}
 use Rattle.changes.proofs.Openings.{order-none, order-more}
 use Rattle.changes.proofs.opening.number.Statement.{statement}
 use Rattle.changes.proofs.opening.number.Tie as tie

@@ -3,7 +3,7 @@ use native.Mathlib.Omega.{arith}
 use borrow.Author.Needs.{needs}
 use Rattle.palindromes.specs.Refusal.{storeSize}
 use Rattle.store.specs.Writes.{writes}
-use Rattle.updates.specs.Opening.{openingWrites, opened}
+use Rattle.transitions.specs.Opening.{openingWrites, opened}
 use Rattle.changes.proofs.opening.open.Statement.{statement}
 use Rattle.changes.proofs.opening.open.Tie as tie
 

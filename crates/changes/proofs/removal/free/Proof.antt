@@ -1,7 +1,7 @@
 -- `changes::removal::free` clears a row and the edge that leads to it, and moves the row behind the rows in use. Assumes nothing.
 use borrow.Author.Needs.{needs}
 use Rattle.store.specs.Writes.{writes}
-use Rattle.updates.specs.Removal.{dropWrites}
+use Rattle.transitions.specs.Removal.{dropWrites}
 use Rattle.changes.proofs.removal.free.Statement.{statement}
 use Rattle.changes.proofs.removal.free.Tie as tie
 

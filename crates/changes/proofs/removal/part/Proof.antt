@@ -7,8 +7,8 @@ use Rattle.store.specs.Layout.{lengthIn, endRow}
 use Rattle.store.specs.Side.{endOf}
 use Rattle.store.proofs.Signed.{kept}
 use Rattle.walk.proofs.Stores.{header-fits, framed-within}
-use Rattle.updates.specs.Removal.{longestBefore}
-use Rattle.updates.proofs.Rows.{used-fits}
+use Rattle.transitions.specs.Removal.{longestBefore}
+use Rattle.transitions.proofs.Rows.{used-fits}
 use Rattle.changes.proofs.Removals.{end-high, end-length, parted}
 use Rattle.changes.proofs.removal.part.Statement.{statement}
 use Rattle.changes.proofs.removal.part.Tie as tie

@@ -4,7 +4,7 @@ use native.Mathlib.Omega.{arith}
 use mathlib.Core.Path.{_≡_, refl, ap, _∙_}
 use lib.ListN.{length, take}
 use Rattle.palindromes.specs.End.{atRight}
-use Rattle.updates.proofs.Added.{addition}
+use Rattle.transitions.proofs.Added.{addition}
 use Rattle.printing.specs.Filled.{Filled}
 use Rattle.printing.proofs.Filling.{next-letter, next-room, filled-more, filled-all}
 use Rattle.printing.proofs.record.fill.Statement.{statement}

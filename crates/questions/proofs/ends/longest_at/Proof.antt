@@ -3,7 +3,7 @@ use native.Mathlib.Omega.{arith}
 use borrow.Author.Needs.{needs}
 use mathlib.Core.Path.{_∙_}
 use Rattle.store.specs.Side.{endOf}
-use Rattle.updates.proofs.Rows.{end-row}
+use Rattle.transitions.proofs.Rows.{end-row}
 use Rattle.walk.proofs.Stores.{header-fits}
 use Rattle.questions.proofs.AtEnds.{once-root, once-surveyed}
 use Rattle.questions.proofs.ends.longest_at.Statement.{statement}

@@ -5,7 +5,7 @@ use native.Mathlib.Omega.{arith}
 use mathlib.Core.Path.{_≡_, sym, ap, _∙_}
 use lib.ListN.{length, getD}
 use Rattle.store.specs.Good.{ruleIn, ruleOf}
-use Rattle.updates.proofs.Rows.{used-fits}
+use Rattle.transitions.proofs.Rows.{used-fits}
 use Rattle.walk.proofs.Stores.{header-fits}
 use Rattle.questions.proofs.Finding.{Reached, too-long, reached-first, reached-next, reached-last, not-facing, no-edge}
 use Rattle.questions.proofs.find.find.Statement.{statement}

@@ -4,7 +4,7 @@ use native.Mathlib.Omega.{arith}
 use borrow.Author.Needs.{needs}
 use mathlib.Core.Path.{_≡_, ap, _∙_}
 use lib.ListN.{length, getD}
-use Rattle.updates.proofs.Rows.{used-fits}
+use Rattle.transitions.proofs.Rows.{used-fits}
 use Rattle.questions.specs.Marks.{endingIn}
 use Rattle.questions.proofs.Right.{to-right, from-right, ending-length, ending-most}
 use Rattle.questions.proofs.Marking.{rank-below, stood-root, stood-marked, reads-old, reads-new}

@@ -5,7 +5,7 @@ use borrow.Author.Needs.{needs}
 use mathlib.Core.Path.{sym}
 use lib.ListN.{length}
 use Rattle.store.proofs.Sizes.{letters-length}
-use Rattle.updates.proofs.Rows.{letter-at}
+use Rattle.transitions.proofs.Rows.{letter-at}
 use Rattle.walk.proofs.Stores.{header-fits, store-long}
 use Rattle.questions.proofs.record.letter.Statement.{statement}
 use Rattle.questions.proofs.record.letter.Tie as tie

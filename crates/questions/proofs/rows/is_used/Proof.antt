@@ -5,7 +5,7 @@ use mathlib.Core.Path.{sym}
 use Rattle.palindromes.proofs.Tests.{not-true-false}
 use Rattle.store.specs.Layout.{usedIn}
 use Rattle.store.proofs.Sizes.{used-below}
-use Rattle.updates.proofs.Rows.{used-root, used-is, row-fits}
+use Rattle.transitions.proofs.Rows.{used-root, used-is, row-fits}
 use Rattle.walk.proofs.Stores.{header-fits}
 use Rattle.questions.proofs.rows.is_used.Statement.{statement}
 use Rattle.questions.proofs.rows.is_used.Tie as tie

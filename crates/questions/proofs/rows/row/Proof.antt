@@ -1,7 +1,7 @@
 -- `questions::rows::row` reads three cells of a used row. Assumes nothing.
 use mathlib.Core.Path.{_∙_}
 use Rattle.store.proofs.Signed.{kept}
-use Rattle.updates.proofs.Rows.{used-fits, link-row, inner-row}
+use Rattle.transitions.proofs.Rows.{used-fits, link-row, inner-row}
 use Rattle.questions.proofs.rows.row.Statement.{statement}
 use Rattle.questions.proofs.rows.row.Tie as tie
 

@@ -9,7 +9,7 @@ use borrow.Fn.Kinds.{In}
 use borrow.Fn.PlainCycle.{Measures, is, falls, and}
 use Rattle.store.specs.Layout.{cell}
 use Rattle.store.specs.Good.{ruleIn}
-use Rattle.updates.proofs.Rows.{used-fits}
+use Rattle.transitions.proofs.Rows.{used-fits}
 use Rattle.walk.proofs.Stores.{header-fits}
 use Rattle.questions.proofs.Spellings.{spells-root, inner-used, inner-less, letter-length, written-letter, around-length, written-around}
 use Rattle.questions.proofs.spell.spell_at.Reads as spell-at

@@ -1,7 +1,7 @@
 -- `questions::spell::last_letter` reads the row's outer letter, which is a byte. Assumes nothing.
 use native.Mathlib.Omega.{arith}
 use borrow.Author.Needs.{needs}
-use Rattle.updates.proofs.Rows.{used-fits}
+use Rattle.transitions.proofs.Rows.{used-fits}
 use Rattle.questions.proofs.Spellings.{outer-byte}
 use Rattle.questions.proofs.spell.last_letter.Statement.{statement}
 use Rattle.questions.proofs.spell.last_letter.Tie as tie

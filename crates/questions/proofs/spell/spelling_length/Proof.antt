@@ -7,7 +7,7 @@ use lib.ListN.{length}
 use Rattle.palindromes.specs.Node.{spellingOf}
 use Rattle.store.specs.Good.{nodeIn}
 use Rattle.store.proofs.Signed.{kept}
-use Rattle.updates.proofs.Rows.{used-fits}
+use Rattle.transitions.proofs.Rows.{used-fits}
 use Rattle.questions.proofs.Spellings.{spells-root, spells-length}
 use Rattle.questions.proofs.spell.spelling_length.Statement.{statement}
 use Rattle.questions.proofs.spell.spelling_length.Tie as tie

@@ -1,0 +1,68 @@
+-- Every starred answer is right, at every capacity of its line: one claim over the whole table, `known-answers`.
+-- An answer depends on the capacity only through the test whether the record is full, which changes at most once as the capacity grows. So an answer that is
+-- right at the least and at the greatest capacity of its line is right at all between, and the two ends are computed, for the whole table at once.
+-- Assumes nothing.
+use Prim.Native.Nat.{ℕ, _≤_}
+use mathlib.Core.Path.{_≡_, refl, sym, _∙_}
+use mathlib.Core.Bool.{Bool, true, false}
+use mathlib.Core.Logic.{_⊎_, inl, inr}
+use mathlib.Core.List.{List, [], _∷_, map}
+use native.Mathlib.Omega.{arith}
+use lib.Dec.{leb}
+use lib.ListN.{length}
+use borrow.Author.Tests.{leb-true, leb-false, le-leb, lt-leb}
+use Rattle.palindromes.specs.Word.{Word, isLetter, allLetters, isEmpty, sameWord, member, keep, distinct}
+use Rattle.palindromes.specs.Palindrome.{mirror, isSymmetric, isPalindrome}
+use Rattle.palindromes.specs.Place.{startsWith, placesFrom, places, first, firstPlace}
+use Rattle.palindromes.specs.Record.{prefixes, suffixes, suffixesOfEach, stretches, palindromes, count, greatest, least, longestLength, longestPlace, longestSuffix}
+use Rattle.palindromes.specs.End.{added, withoutLast, withoutFirst, removed, letterAt, newIn}
+use Rattle.palindromes.specs.Node.{linkOf, innerOf, isNode}
+use Rattle.palindromes.specs.Refusal.{fault, firstFault, faults, questionFaults, refusal}
+use Rattle.known_answers.specs.KnownAnswer.{Query, howMany, whichLongest, addition, removal, theLink, theInner, look, Answer, viewOf, unlessRefused, answer, KnownAnswer, Right, AllRight, none-left, one-more}
+use Rattle.known_answers.specs.Starred.{starred}
+
+-- two capacities at which the record is full, or not, alike answer alike
+same-answer : (k m : ℕ) (s : Word) (query : Query) → leb k (length s) ≡ leb m (length s) → answer k s query ≡ answer m s query
+unfolding answer refusal faults questionFaults viewOf
+same-answer k m s howMany e = refl
+same-answer k m s whichLongest e = refl
+same-answer k m s (addition end c) e = rw e
+same-answer k m s (removal end) e = refl
+same-answer k m s (theLink w) e = refl
+same-answer k m s (theInner w) e = refl
+same-answer k m s (look w) e = refl
+
+-- between two capacities the record is full as at one of them
+full-as : (a b k n : ℕ) → a ≤ k → k ≤ b → (leb k n ≡ leb a n) ⊎ (leb k n ≡ leb b n)
+full-as a b k n low high = go (leb k n) refl
+  where
+    go : (t : Bool) → leb k n ≡ t → (leb k n ≡ leb a n) ⊎ (leb k n ≡ leb b n)
+    go true e = let below = leb-true k n e in inl (e ∙ sym (le-leb a n (omega arith)))
+    go false e = let above = leb-false k n e in inr (e ∙ sym (lt-leb b n (omega arith)))
+
+-- the answers at the two ends of a line's capacities, and what they must be
+abbrev at-ends : KnownAnswer → List Answer
+at-ends x = answer (x .least) (x .letters) (x .query) ∷ answer (x .most) (x .letters) (x .query) ∷ []
+
+abbrev wanted : KnownAnswer → List Answer
+wanted x = x .known ∷ x .known ∷ []
+
+right-between : (x : KnownAnswer) → at-ends x ≡ wanted x → Right x
+right-between x p k low high = go (full-as (x .least) (x .most) k (length (x .letters)) low high)
+  where
+    go : (leb k (length (x .letters)) ≡ leb (x .least) (length (x .letters))) ⊎ (leb k (length (x .letters)) ≡ leb (x .most) (length (x .letters)))
+        → answer k (x .letters) (x .query) ≡ x .known
+    go (inl e) = same-answer k (x .least) (x .letters) (x .query) e ∙ cc
+    go (inr e) = same-answer k (x .most) (x .letters) (x .query) e ∙ cc
+
+all-between : (xs : List KnownAnswer) → map at-ends xs ≡ map wanted xs → AllRight xs
+all-between [] p = none-left
+all-between (x ∷ xs) p = one-more (right-between x (cc)) (all-between xs (cc))
+
+computed : map at-ends starred ≡ map wanted starred
+unfolding starred answer unlessRefused viewOf refusal faults questionFaults fault firstFault isLetter allLetters isEmpty sameWord member keep distinct mirror isSymmetric isPalindrome startsWith placesFrom places first firstPlace prefixes suffixes suffixesOfEach stretches palindromes count greatest least longestLength longestPlace longestSuffix added withoutLast withoutFirst removed letterAt newIn linkOf innerOf isNode
+computed = refl
+
+-- the twelve starred sittings of document 01
+pub known-answers : AllRight starred
+known-answers = all-between starred computed

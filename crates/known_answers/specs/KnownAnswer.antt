@@ -1,0 +1,69 @@
+-- DEFINITIONS. A record with a known answer: letters, capacities, a question or a change, and what the definitions answer. Nothing here is proved.
+use Prim.Native.Nat.{ℕ, _≤_}
+use mathlib.Core.Path.{_≡_}
+use mathlib.Core.Bool.{true, cond}
+use mathlib.Core.List.{List}
+use mathlib.Core.Option.{none}
+use Prim.Native.Nat.{zero, suc}
+use Rattle.palindromes.specs.Word.{Word, member}
+use Rattle.palindromes.specs.Palindrome.{plain}
+use Rattle.palindromes.specs.Record.{palindromes, count, longestLength, longestPlace}
+use Rattle.palindromes.specs.End.{End, added, removed, letterAt, newIn}
+use Rattle.palindromes.specs.Node.{Node, spelt, linkOf, innerOf, isNode}
+use Rattle.palindromes.specs.Refusal.{ask, add, remove, theCount, theLongest, find, View, storeSize, refusal}
+
+-- what is asked; a row is named by the repeat that it holds, since the letters do not decide its number
+pub data Query : Type 0 where
+  howMany whichLongest : Query
+  addition : End → ℕ → Query
+  removal : End → Query
+  theLink theInner : Word → Query
+  look : Word → Query
+
+-- what is answered: a refusal's number; a number; a length and a place; the repeats that an addition brings in, and the count after it; the letter
+-- and the repeats that a removal takes out, and the count after it; a row, by what it holds; absent
+pub data Answer : Type 0 where
+  refused : ℕ → Answer
+  number : ℕ → Answer
+  lengthAt : ℕ → ℕ → Answer
+  comesIn : List Word → ℕ → Answer
+  goesOut : ℕ → List Word → ℕ → Answer
+  row : Node → Answer
+  absent : Answer
+
+-- a good store of the given capacity that shows the given letters
+unfoldable pub viewOf : ℕ → Word → View
+viewOf capacity s = record { size = storeSize capacity; scratch = 0; out = 0; good = true; capacity = capacity; letters = s; row = λ r. none }
+
+-- the refusal's number where it is not 0, and else the answer
+unfoldable pub unlessRefused : ℕ → Answer → Answer
+unlessRefused zero known = known
+unlessRefused (suc n) known = refused (suc n)
+
+-- what the definitions answer to a plain record of these letters in a store of this capacity
+unfoldable pub answer : ℕ → Word → Query → Answer
+answer k s howMany = unlessRefused (refusal plain (viewOf k s) (ask theCount)) (number (count plain s))
+answer k s whichLongest = unlessRefused (refusal plain (viewOf k s) (ask theLongest)) (lengthAt (longestLength plain s) (longestPlace plain s))
+answer k s (addition e c) = unlessRefused (refusal plain (viewOf k s) (add e c)) (comesIn (newIn plain s (added e c s)) (count plain (added e c s)))
+answer k s (removal e) =
+    unlessRefused (refusal plain (viewOf k s) (remove e)) (goesOut (letterAt e s) (newIn plain (removed e s) s) (count plain (removed e s)))
+answer k s (theLink w) = cond (isNode plain s (spelt w)) (row (linkOf plain (spelt w))) (refused 7)
+answer k s (theInner w) = cond (isNode plain s (spelt w)) (row (innerOf (spelt w))) (refused 7)
+answer k s (look w) = unlessRefused (refusal plain (viewOf k s) (ask (find w))) (cond (member w (palindromes plain s)) (row (spelt w)) absent)
+
+-- a line of the table: the letters, the least and the greatest capacity for which the answer is claimed, what is asked, and the answer
+pub record KnownAnswer : Type 0 where
+  pub letters : Word
+  pub least : ℕ
+  pub most : ℕ
+  pub query : Query
+  pub known : Answer
+
+-- the answer is right at every capacity of its line
+abbrev pub Right : KnownAnswer → Type 0
+Right x = (k : ℕ) → x .least ≤ k → k ≤ x .most → answer k (x .letters) (x .query) ≡ x .known
+
+-- every answer of the list is right
+pub data AllRight : List KnownAnswer → Type 0 where
+  none-left : AllRight List.[]
+  one-more : {x : KnownAnswer} {xs : List KnownAnswer} → Right x → AllRight xs → AllRight (List._∷_ x xs)

@@ -1,0 +1,2 @@
+pub mod KnownAnswer
+pub mod Starred
