@@ -2,3 +2,5 @@
 pub mod Replies
 pub mod Refusals
 pub mod Promises
+pub mod Packing
+pub mod Fits

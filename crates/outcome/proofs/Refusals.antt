@@ -4,66 +4,78 @@ use mathlib.Core.Path.{_≡_, refl, sym, ap}
 use mathlib.Core.Bool.{Bool, true, false, not, _&&_}
 use mathlib.Core.List.{List, [], _∷_}
 use native.Mathlib.Omega.{arith}
-use lib.Dec.{leb, ltb}
+use lib.Dec.{eqb, leb, ltb}
 use lib.ListN.{length}
-use borrow.Author.Tests.{lt-leb, le-leb, lt-ltb, le-ltb, leb-true, ltb-false}
+use borrow.Author.Tests.{lt-leb, le-leb, lt-ltb, le-ltb, leb-true, leb-false, ltb-true, ltb-false}
 use Rattle.palindromes.specs.Word.{Word, isLetter, allLetters, isEmpty}
 use Rattle.palindromes.specs.End.{End}
 use Rattle.palindromes.specs.Node.{spellingOf}
 use Rattle.palindromes.specs.Bed.{isIdentifier, listing}
 use Rattle.palindromes.specs.Refusal.{Question, theLength, theCount, theLongest, theLongestAt, theLetter, theRow, spell, find, list, View, questionFaults, Call, opening, add, remove, ask, fault, firstFault, isFree, spellingLength, storeSize, faults, refusal}
-use Rattle.palindromes.proofs.Tests.{non-empty-is}
+use Rattle.palindromes.proofs.Tests.{both-true, false-not-true, non-empty-is}
 use Rattle.store.specs.Layout.{capacityIn, usedIn, lettersIn}
 use Rattle.store.specs.Good.{ruleOf, nodeIn}
 use Rattle.outcome.specs.Outcome.{Lent, viewIn, unlessRefused, outcome, acceptedOutcome, refusedOutcome}
 
--- ---- the first fault
+-- ---- the numbers
 
--- m is not among the numbers
-abbrev NoneIs : ℕ → List ℕ → Type 0
-NoneIs m [] = Unit {0}
-NoneIs m (n ∷ ns) = (n ≡ m → ⊥) × NoneIs m ns
+-- a number that a good store may answer: it fits its byte and is not 3. 0 stands for none
+abbrev Other : ℕ → Type 0
+Other n = (n < 256) × (n ≡ 3 → ⊥)
 
--- a number that no test of the list has is not the first fault
-first-not : (m : ℕ) → (m ≡ 0 → ⊥) → (ns : List ℕ) → NoneIs m ns → firstFault ns ≡ m → ⊥
+abbrev EachOther : List ℕ → Type 0
+EachOther [] = Unit {0}
+EachOther (n ∷ ns) = Other n × EachOther ns
+
+none : Other 0
+none = (omega arith, λ e. omega arith)
+
+first-other : (ns : List ℕ) → EachOther ns → Other (firstFault ns)
 unfolding firstFault
-first-not m h [] a e = h (sym e)
-first-not m h (zero ∷ ns) a e = first-not m h ns (a .1) e
-first-not m h (suc n ∷ ns) a e = a .0 e
+first-other [] a = none
+first-other (zero ∷ ns) a = first-other ns (a .1)
+first-other (suc n ∷ ns) a = a .0
 
 -- a row of the table with another number than 3
-other-number : (n : ℕ) (t : Bool) → (n ≡ 3 → ⊥) → fault n t ≡ 3 → ⊥
+row : (n : ℕ) (t : Bool) → (ltb n 256 && not (eqb n 3)) ≡ true → Other (fault n t)
 unfolding fault
-other-number n true p e = p e
-other-number n false p e = omega arith
+row n true h =
+    let both = both-true (ltb n 256) (not (eqb n 3)) h in
+    (ltb-true n 256 (both .0), λ e. false-not-true (ap (λ (m : ℕ). not (eqb m 3)) e) (both .1))
+row n false h = none
 
 -- the row of 3, on a good store
-good-store : fault 3 (not true) ≡ 3 → ⊥
+good-store : Other (fault 3 (not true))
 unfolding fault
-good-store e = omega arith
+good-store = none
 
--- no row that names a question has 3
-none-three : (σ : ℕ → ℕ) (v : View) (q : Question) → NoneIs 3 (questionFaults σ v q)
+question-numbers : (σ : ℕ → ℕ) (v : View) (q : Question) → EachOther (questionFaults σ v q)
 unfolding questionFaults
-none-three σ v theLength = tt
-none-three σ v theCount = tt
-none-three σ v theLongest = (other-number 6 _ (omega arith), tt)
-none-three σ v (theLongestAt e) = (other-number 6 _ (omega arith), tt)
-none-three σ v (theLetter i) = (other-number 7 _ (omega arith), tt)
-none-three σ v (theRow r) = (other-number 7 _ (omega arith), tt)
-none-three σ v (spell r) = (other-number 7 _ (omega arith), (other-number 9 _ (omega arith), tt))
-none-three σ v (find p) = (other-number 8 _ (omega arith), (other-number 4 _ (omega arith), tt))
-none-three σ v (list name) = (other-number 10 _ (omega arith), (other-number 9 _ (omega arith), (other-number 9 _ (omega arith), tt)))
+question-numbers σ v theLength = tt
+question-numbers σ v theCount = tt
+question-numbers σ v theLongest = (row 6 _ refl, tt)
+question-numbers σ v (theLongestAt e) = (row 6 _ refl, tt)
+question-numbers σ v (theLetter i) = (row 7 _ refl, tt)
+question-numbers σ v (theRow r) = (row 7 _ refl, tt)
+question-numbers σ v (spell r) = (row 7 _ refl, (row 9 _ refl, tt))
+question-numbers σ v (find p) = (row 8 _ refl, (row 4 _ refl, tt))
+question-numbers σ v (list name) =
+    (row 10 _ refl, (row 9 _ refl, (row 9 _ refl, tt)))
 
--- a good store refuses no call with 3, nor does an opening
-pub never-three : (b : Word) (l : Lent) (call : Call) → refusal (ruleOf b) (viewIn b l) call ≡ 3 → ⊥
+-- the number of any call on a good store, and of an opening on any: one byte, and never 3
+pub number-other : (b : Word) (l : Lent) (call : Call) → Other (refusal (ruleOf b) (viewIn b l) call)
 unfolding refusal faults viewIn
-never-three b l (opening k) e = first-not 3 (omega arith) _ (other-number 1 _ (omega arith), (other-number 2 _ (omega arith), tt)) e
-never-three b l (add end c) e = first-not 3 (omega arith) _ (good-store, (other-number 4 _ (omega arith), (other-number 5 _ (omega arith), tt))) e
-never-three b l (remove end) e = first-not 3 (omega arith) _ (good-store, (other-number 6 _ (omega arith), tt)) e
-never-three b l (ask q) e = first-not 3 (omega arith) _ (good-store, none-three _ _ q) e
+number-other b l (opening k) = first-other _ (row 1 _ refl, (row 2 _ refl, tt))
+number-other b l (add e c) = first-other _ (good-store, (row 4 _ refl, (row 5 _ refl, tt)))
+number-other b l (remove e) = first-other _ (good-store, (row 6 _ refl, tt))
+number-other b l (ask q) = first-other _ (good-store, question-numbers _ _ q)
 
 -- ---- when a call is carried out
+
+-- a test that does not fail holds
+not-false-true : (t : Bool) → (t ≡ false → ⊥) → t ≡ true
+not-false-true true h = refl
+not-false-true false h = absurd (h refl)
 
 module _ (b : Word) (l : Lent) where
   pub add-letter : (e : End) (c : ℕ) → isLetter c ≡ false → refusal (ruleOf b) (viewIn b l) (add e c) ≡ 4
@@ -175,6 +187,25 @@ module _ (b : Word) (l : Lent) where
   pub opening-accepted : (k : ℕ) → (leb 1 k && leb k 1024) ≡ true → storeSize k ≤ length b → refusal (ruleOf b) (viewIn b l) (opening k) ≡ 0
   unfolding refusal faults questionFaults viewIn firstFault fault
   opening-accepted k h m = rw (h, le-ltb (length b) (storeSize k) m)
+
+  -- ---- what a call that is carried out tells of its arguments
+
+  pub add-room : (e : End) (c : ℕ) → refusal (ruleOf b) (viewIn b l) (add e c) ≡ 0 → length (lettersIn b) < capacityIn b
+  add-room e c z = go (isLetter c) (leb (capacityIn b) (length (lettersIn b))) refl refl
+    where
+      go : (p q : Bool) → isLetter c ≡ p → leb (capacityIn b) (length (lettersIn b)) ≡ q → length (lettersIn b) < capacityIn b
+      go false q f h = absurd (omega (arith, add-letter e c f))
+      go true true f h = absurd (omega (arith, add-full e c f (leb-true (capacityIn b) (length (lettersIn b)) h)))
+      go true false f h = leb-false (capacityIn b) (length (lettersIn b)) h
+
+  pub row-used : (r : ℕ) → refusal (ruleOf b) (viewIn b l) (ask (theRow r)) ≡ 0 → usedIn b r ≡ true
+  row-used r z = not-false-true (usedIn b r) (λ h. omega (arith, row-free r h))
+
+  pub spell-used : (r : ℕ) → refusal (ruleOf b) (viewIn b l) (ask (spell r)) ≡ 0 → usedIn b r ≡ true
+  spell-used r z = not-false-true (usedIn b r) (λ h. omega (arith, spell-free r h))
+
+  pub list-named : (name : Word) → refusal (ruleOf b) (viewIn b l) (ask (list name)) ≡ 0 → isIdentifier name ≡ true
+  list-named name z = not-false-true (isIdentifier name) (λ h. omega (arith, list-name name h))
 
 -- ---- what the outcome then is
 
