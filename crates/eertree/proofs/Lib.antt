@@ -5,3 +5,4 @@ pub mod Nodes
 pub mod Grow
 pub mod Shrink
 pub mod Replay
+pub mod Entries

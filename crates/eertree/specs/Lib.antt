@@ -1,1 +1,2 @@
 pub mod Covers
+pub mod Entries

@@ -4,16 +4,17 @@ use Prim.Native.Nat.{ℕ, _<_}
 use mathlib.Core.Path.{_≡_}
 use lib.ListN.{getD}
 use Rattle.palindromes.specs.Word.{Word}
-use Rattle.palindromes.specs.Palindrome.{plain, Palindrome}
+use Rattle.palindromes.specs.Palindrome.{Palindrome}
 use Rattle.palindromes.specs.Place.{Stands}
 use Rattle.palindromes.specs.Node.{spelt}
-use Rattle.store.specs.Layout.{capacityIn, lettersIn}
-use Rattle.store.specs.Good.{Good}
+use Rattle.store.specs.Layout.{capacityIn, readingIn, lettersIn}
+use Rattle.store.specs.Good.{ruleIn, Good}
 use Rattle.transitions.specs.Rows.{rowOf}
 
-pub record State (k : ℕ) (s : Word) (row : Word → ℕ) (b : Word) : Type 0 where
+pub record State (m k : ℕ) (s : Word) (row : Word → ℕ) (b : Word) : Type 0 where
   pub good : Good b
   pub capacity : capacityIn b ≡ k
+  pub reading : readingIn b ≡ m
   pub letters : lettersIn b ≡ s
-  pub rows : (w : Word) → Palindrome plain w → Stands w s → row w ≡ rowOf b (spelt w)
+  pub rows : (w : Word) → Palindrome (ruleIn m) w → Stands w s → row w ≡ rowOf b (spelt w)
   pub bytes : (i : ℕ) → getD b i 0 < 256

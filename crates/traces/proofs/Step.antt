@@ -9,7 +9,7 @@ use lib.Dec.{ltb}
 use lib.ListN.{length}
 use borrow.Author.Tests.{ltb-true, ltb-false, not-true, not-false}
 use Rattle.palindromes.specs.Word.{Word, isLetter, sameWord}
-use Rattle.palindromes.specs.Palindrome.{plain, Palindrome}
+use Rattle.palindromes.specs.Palindrome.{Palindrome}
 use Rattle.palindromes.specs.Place.{Stands, stands}
 use Rattle.palindromes.specs.End.{End, added, removed, letterAt, longestAt, newIn}
 use Rattle.palindromes.specs.Node.{spelt}
@@ -21,8 +21,8 @@ use Rattle.palindromes.proofs.Places.{stands-true, stands-is, stands-empty}
 use Rattle.palindromes.proofs.Palindromes.{fresh, fresh-old, fresh-new}
 use Rattle.palindromes.proofs.NewIn.{longest-at, new-in-added, gone-in-added, gone-in-removed, new-in-removed}
 use Rattle.store.specs.Layout.{capacityIn, sizeIn, usedIn, lettersIn}
-use Rattle.store.specs.Good.{nodeIn, Good}
-use Rattle.store.proofs.Sizes.{letters-length}
+use Rattle.store.specs.Good.{ruleIn, ruleOf, nodeIn, Good}
+use Rattle.store.proofs.Sizes.{letters-length, rule-inverse}
 use Rattle.transitions.specs.Rows.{rowOf, freeRow}
 use Rattle.transitions.specs.Addition.{longestAfter, bringsIn, rowAfter as rowAfterAddition, afterAddition}
 use Rattle.transitions.specs.Removal.{longestBefore, takesOut, afterRemoval}
@@ -40,13 +40,9 @@ use Rattle.outcome.proofs.Replies.{reply-of-added, reply-of-removed}
 use Rattle.outcome.proofs.Refusals.{add-letter, add-full, add-accepted, remove-empty, remove-accepted, carried-out, refused-out}
 use Rattle.traces.proofs.State.{State}
 
--- every letter is its own partner
-plain-inverse : (x : ℕ) → plain (plain x) ≡ x
-plain-inverse x = refl
-
 -- a change that brings in v, or nothing where v stood
-moved : (s t v : Word) (flag : Bool) → flag ≡ not (stands v s) → newIn plain s t ≡ fresh v s → newIn plain t s ≡ [] → Moved s t v flag
-moved s t v flag e f g =
+moved : (m : ℕ) (s t v : Word) (flag : Bool) → flag ≡ not (stands v s) → newIn (ruleIn m) s t ≡ fresh v s → newIn (ruleIn m) t s ≡ [] → Moved m s t v flag
+moved m s t v flag e f g =
     record {
       one = λ h. f ∙ fresh-new v s (λ p. false-not-true (not-true (stands v s) (sym e ∙ h)) (stands-is v s p));
       none = λ h. f ∙ fresh-old v s (stands-true v s (not-false (stands v s) (sym e ∙ h)));
@@ -54,9 +50,9 @@ moved s t v flag e f g =
     }
 
 -- the state with the rows said in another way
-renamed-rows : (k : ℕ) (s b : Word) (row row′ : Word → ℕ) → ((w : Word) → row w ≡ row′ w) → State k s row b → State k s row′ b
-renamed-rows k s b row row′ e st =
-    record { good = st .good; capacity = st .capacity; letters = st .letters; rows = λ w p h. sym (e w) ∙ st .rows w p h; bytes = st .bytes }
+renamed-rows : (m k : ℕ) (s b : Word) (row row′ : Word → ℕ) → ((w : Word) → row w ≡ row′ w) → State m k s row b → State m k s row′ b
+renamed-rows m k s b row row′ e st =
+    record { good = st .good; capacity = st .capacity; reading = st .reading; letters = st .letters; rows = λ w p h. sym (e w) ∙ st .rows w p h; bytes = st .bytes }
 
 -- the fields of an accepted reply
 number-zero : {r : Reply} (t : Bool) (m n : ℕ) → r ≡ accepted t m n 0 → r .number ≡ 0
@@ -73,10 +69,10 @@ zero-row : (t : Bool) (m : ℕ) {r : Reply} → r ≡ accepted t (cond t m 0) 0 
 zero-row t m e f = zero-first t m 0 e f
 
 -- a reply that says 1 gives the longest repeat at its end the row that it answers
-answered-row : (s : Word) (e : End) (c : ℕ) (r : Reply) (row : Word → ℕ) → r .flag ≡ true → r .row ≡ rowStep s (add e c) r row (longestAt plain e (added e c s))
+answered-row : (m : ℕ) (s : Word) (e : End) (c : ℕ) (r : Reply) (row : Word → ℕ) → r .flag ≡ true → r .row ≡ rowStep m s (add e c) r row (longestAt (ruleIn m) e (added e c s))
 unfolding rowStep
-answered-row s e c r row f =
-    sym (ap₂ (λ (t x : Bool). cond (t && x) (r .row) (row (longestAt plain e (added e c s)))) f (same-refl (longestAt plain e (added e c s))))
+answered-row m s e c r row f =
+    sym (ap₂ (λ (t x : Bool). cond (t && x) (r .row) (row (longestAt (ruleIn m) e (added e c s)))) f (same-refl (longestAt (ruleIn m) e (added e c s))))
 
 -- a row that is used after a removal was used before it, for the same repeat
 kept-before : (e : End) (b : Word) → Updates·Removed.Removed e b → (r : ℕ) → usedIn (afterRemoval e b) r ≡ true → (usedIn b r ≡ true) × (nodeIn (afterRemoval e b) r ≡ nodeIn b r)
@@ -90,9 +86,12 @@ not-empty-length : (s : Word) → (s ≡ [] → ⊥) → 0 < length s
 not-empty-length [] h = absurd (h refl)
 not-empty-length (x ∷ s) h = omega arith
 
-module _ (k : ℕ) (s : Word) (row : Word → ℕ) (b : Word) (st : State k s row b) where
+module _ (m k : ℕ) (s : Word) (row : Word → ℕ) (b : Word) (st : State m k s row b) where
   good : Good b
   good = st .good
+
+  rule-is : ruleOf b ≡ ruleIn m
+  rule-is = ap ruleIn (st .reading)
 
   size-is : sizeIn b ≡ length s
   size-is = sym (letters-length (good .sized)) ∙ ap length (st .letters)
@@ -125,12 +124,12 @@ module _ (k : ℕ) (s : Word) (row : Word → ℕ) (b : Word) (st : State k s ro
         none p = (3, came ∙ refused-out (add e c) b l 3 (add-letter b l e c p))
 
     abbrev v : Word
-    v = longestAt plain e (added e c s)
+    v = longestAt (ruleIn m) e (added e c s)
 
     -- the longest repeat at the call's end, read after the addition, and whether it is new
     longest-is : longestAfter e c b ≡ v
     unfolding longestAfter
-    longest-is = ap (λ (t : Word). longestAt plain e (added e c t)) (st .letters)
+    longest-is = ap₂ (λ (σ : ℕ → ℕ) (t : Word). longestAt σ e (added e c t)) rule-is (st .letters)
 
     brings-is : bringsIn e c b ≡ not (stands v s)
     unfolding bringsIn
@@ -158,16 +157,16 @@ module _ (k : ℕ) (s : Word) (row : Word → ℕ) (b : Word) (st : State k s ro
     letters-is h = ap (λ (t : Bool). cond t (added e c s) s) h
 
     -- the rows after an accepted addition: an old repeat keeps its own, and the new one has the row that was answered
-    rows-after : room ≡ true → (w : Word) → Palindrome plain w → Stands w (added e c s) → rowStep s (add e c) (o .reply) row w ≡ rowOf (afterAddition e c b) (spelt w)
+    rows-after : room ≡ true → (w : Word) → Palindrome (ruleIn m) w → Stands w (added e c s) → rowStep m s (add e c) (o .reply) row w ≡ rowOf (afterAddition e c b) (spelt w)
     unfolding rowStep accepted
     rows-after h w p there = ⊎-elim old new (stands-or-not w s)
       where
         f : Updates·Added.Added e c b
         f = facts h
 
-        old : Stands w s → rowStep s (add e c) (o .reply) row w ≡ rowOf (afterAddition e c b) (spelt w)
+        old : Stands w s → rowStep m s (add e c) (o .reply) row w ≡ rowOf (afterAddition e c b) (spelt w)
         old q =
-            let held = row-of-node good (spelt w) (p .symmetric, subst (Stands w) (sym (st .letters)) q) in
+            let held = row-of-node good (spelt w) (rw rule-is (p .symmetric), subst (Stands w) (sym (st .letters)) q) in
             let keeps = f .old-row (rowOf b (spelt w)) (held .0) in
             ap (λ (r : Reply). cond (r .flag && sameWord w v) (r .row) (row w)) (reply-is h)
             ∙ go (bringsIn e c b) (sameWord w v) refl refl
@@ -180,10 +179,10 @@ module _ (k : ℕ) (s : Word) (row : Word → ℕ) (b : Word) (st : State k s ro
             go true false g m = refl
             go false u g m = refl
 
-        new : (Stands w s → ⊥) → rowStep s (add e c) (o .reply) row w ≡ rowOf (afterAddition e c b) (spelt w)
-        new n = ⊎-elim fresh-one (λ q. absurd (n q)) (new-is-longest plain plain-inverse e s w c (p .symmetric) there)
+        new : (Stands w s → ⊥) → rowStep m s (add e c) (o .reply) row w ≡ rowOf (afterAddition e c b) (spelt w)
+        new n = ⊎-elim fresh-one (λ q. absurd (n q)) (new-is-longest (ruleIn m) (rule-inverse m) e s w c (p .symmetric) there)
           where
-            fresh-one : w ≡ v → rowStep s (add e c) (o .reply) row w ≡ rowOf (afterAddition e c b) (spelt w)
+            fresh-one : w ≡ v → rowStep m s (add e c) (o .reply) row w ≡ rowOf (afterAddition e c b) (spelt w)
             fresh-one g =
                 let not-there : stands v s ≡ false = not-true-false (stands v s) (λ m. n (subst (λ (x : Word). Stands x s) (sym g) (stands-true v s m))) in
                 let brings : bringsIn e c b ≡ true = brings-is ∙ ap not not-there in
@@ -193,35 +192,36 @@ module _ (k : ℕ) (s : Word) (row : Word → ℕ) (b : Word) (st : State k s ro
                 ∙ sym (row-of (f .good) (freeRow b) (spelt w) (held .0) (held .1 ∙ ap spelt (longest-is ∙ sym g)))
 
     -- a refused addition leaves letters, rows and store
-    refused-state : room ≡ false → State k (lettersStep k s (add e c)) (rowStep s (add e c) (o .reply) row) (o .store)
+    refused-state : room ≡ false → State m k (lettersStep k s (add e c)) (rowStep m s (add e c) (o .reply) row) (o .store)
     unfolding lettersStep rowStep refusedOutcome refusedWith
     refused-state h =
         let g = add-refused h in
-        let made : State k s row b = st in
-        let same : (w : Word) → row w ≡ rowStep s (add e c) (o .reply) row w =
-        λ w. ap (λ (x : Outcome). cond (x .reply .flag && sameWord w (longestAt plain e (added e c s))) (x .reply .row) (row w)) (sym (g .1)) in
-        subst₂ (λ (t x : Word). State k t (rowStep s (add e c) (o .reply) row) x)
+        let made : State m k s row b = st in
+        let same : (w : Word) → row w ≡ rowStep m s (add e c) (o .reply) row w =
+        λ w. ap (λ (x : Outcome). cond (x .reply .flag && sameWord w (longestAt (ruleIn m) e (added e c s))) (x .reply .row) (row w)) (sym (g .1)) in
+        subst₂ (λ (t x : Word). State m k t (rowStep m s (add e c) (o .reply) row) x)
         (ap (λ (t : Bool). cond t (added e c s) s) (sym h))
         (ap (λ (x : Outcome). x .store) (sym (g .1)))
-        (renamed-rows k s b row (rowStep s (add e c) (o .reply) row) same made)
+        (renamed-rows m k s b row (rowStep m s (add e c) (o .reply) row) same made)
 
-    pub add-state : State k (lettersStep k s (add e c)) (rowStep s (add e c) (o .reply) row) (o .store)
+    pub add-state : State m k (lettersStep k s (add e c)) (rowStep m s (add e c) (o .reply) row) (o .store)
     add-state = ⊎-elim yes-room no-room (decided room)
       where
-        yes-room : room ≡ true → State k (lettersStep k s (add e c)) (rowStep s (add e c) (o .reply) row) (o .store)
+        yes-room : room ≡ true → State m k (lettersStep k s (add e c)) (rowStep m s (add e c) (o .reply) row) (o .store)
         yes-room h =
             let f = facts h in
-            let made : State k (added e c s) (rowStep s (add e c) (o .reply) row) (afterAddition e c b) =
+            let made : State m k (added e c s) (rowStep m s (add e c) (o .reply) row) (afterAddition e c b) =
             record {
               good = f .good;
               capacity = f .capacity ∙ st .capacity;
+              reading = f .reading ∙ st .reading;
               letters = f .letters ∙ ap (added e c) (st .letters);
               rows = rows-after h;
               bytes = f .bytes (st .bytes);
             } in
-            subst₂ (λ (t x : Word). State k t (rowStep s (add e c) (o .reply) row) x) (sym (letters-is h)) (sym (store-is h)) made
+            subst₂ (λ (t x : Word). State m k t (rowStep m s (add e c) (o .reply) row) x) (sym (letters-is h)) (sym (store-is h)) made
 
-        no-room : room ≡ false → State k (lettersStep k s (add e c)) (rowStep s (add e c) (o .reply) row) (o .store)
+        no-room : room ≡ false → State m k (lettersStep k s (add e c)) (rowStep m s (add e c) (o .reply) row) (o .store)
         no-room h = refused-state h
 
     -- the first point for an addition
@@ -237,12 +237,12 @@ module _ (k : ℕ) (s : Word) (row : Word → ℕ) (b : Word) (st : State k s ro
     unfolding accepted
     flag-is h = ap (λ (r : Reply). r .flag) (reply-is h)
 
-    pub add-claim : Added k s (rowStep s (add e c) (o .reply) row) e c o
+    pub add-claim : Added m k s (rowStep m s (add e c) (o .reply) row) e c o
     add-claim =
         record {
           accepted-if = zero-number;
           only-if = only;
-          moves = λ z. let h = only z in moved s (added e c s) v (o .reply .flag) (flag-is h ∙ brings-is) (new-in-added plain plain-inverse e s c) (gone-in-added plain e s c);
+          moves = λ z. let h = only z in moved m s (added e c s) v (o .reply .flag) (flag-is h ∙ brings-is) (new-in-added (ruleIn m) (rule-inverse m) e s c) (gone-in-added (ruleIn m) e s c);
           new-row = new-row;
           no-row = no-row;
         }
@@ -253,14 +253,14 @@ module _ (k : ℕ) (s : Word) (row : Word → ℕ) (b : Word) (st : State k s ro
         only : o .reply .number ≡ 0 → room ≡ true
         only z = ⊎-elim (λ h. h) (λ h. absurd (refused-number h z)) (decided room)
 
-        new-row : o .reply .flag ≡ true → o .reply .row ≡ rowStep s (add e c) (o .reply) row (longestAt plain e (added e c s))
-        new-row f = answered-row s e c (o .reply) row f
+        new-row : o .reply .flag ≡ true → o .reply .row ≡ rowStep m s (add e c) (o .reply) row (longestAt (ruleIn m) e (added e c s))
+        new-row f = answered-row m s e c (o .reply) row f
 
         no-row : o .reply .flag ≡ false → o .reply .row ≡ 0
         no-row f = ⊎-elim (λ h. zero-row (bringsIn e c b) (freeRow b) (reply-is h) f) (λ h. no-flag h .1) (decided room)
 
     -- a repeat that stood keeps its row
-    pub add-keeps : (w : Word) → Stands w s → rowStep s (add e c) (o .reply) row w ≡ row w
+    pub add-keeps : (w : Word) → Stands w s → rowStep m s (add e c) (o .reply) row w ≡ row w
     unfolding rowStep
     add-keeps w q = go (o .reply .flag) (sameWord w v) refl refl
       where
@@ -289,11 +289,11 @@ module _ (k : ℕ) (s : Word) (row : Word → ℕ) (b : Word) (st : State k s ro
     remove-refused h = gone ∙ refused-out (remove e) b l 5 (remove-empty b l e (st .letters ∙ h))
 
     abbrev u : Word
-    u = longestAt plain e s
+    u = longestAt (ruleIn m) e s
 
     before-is : longestBefore e b ≡ u
     unfolding longestBefore
-    before-is = ap (longestAt plain e) (st .letters)
+    before-is = ap₂ (λ (σ : ℕ → ℕ) (t : Word). longestAt σ e t) rule-is (st .letters)
 
     takes-is : takesOut e b ≡ not (stands u (removed e s))
     unfolding takesOut
@@ -309,34 +309,35 @@ module _ (k : ℕ) (s : Word) (row : Word → ℕ) (b : Word) (st : State k s ro
         ∙ reply-of-removed (takesOut e b) (letterAt e (lettersIn b)) (rowOf b (spelt (longestBefore e b)))
         ∙ ap₂ (λ (x t : Word). accepted (takesOut e b) (cond (takesOut e b) (rowOf b (spelt x)) 0) (letterAt e t) 0) before-is (st .letters)
 
-    pub remove-state : State k (removed e s) row (o .store)
+    pub remove-state : State m k (removed e s) row (o .store)
     unfolding acceptedOutcome changed refusedOutcome
     remove-state = ⊎-elim empty some (empty-or-some s)
       where
-        empty : s ≡ [] → State k (removed e s) row (o .store)
+        empty : s ≡ [] → State m k (removed e s) row (o .store)
         empty h =
-            subst₂ (λ (t x : Word). State k t row x)
+            subst₂ (λ (t x : Word). State m k t row x)
             (h ∙ sym (removed-empty e) ∙ ap (removed e) (sym h))
             (ap (λ (x : Outcome). x .store) (sym (remove-refused h)))
             st
 
-        some : (s ≡ [] → ⊥) → State k (removed e s) row (o .store)
+        some : (s ≡ [] → ⊥) → State m k (removed e s) row (o .store)
         some h =
             let f = removed-facts h in
-            let made : State k (removed e s) row (afterRemoval e b) =
+            let made : State m k (removed e s) row (afterRemoval e b) =
             record {
               good = f .good;
               capacity = f .capacity ∙ st .capacity;
+              reading = f .reading ∙ st .reading;
               letters = f .letters ∙ ap (removed e) (st .letters);
               rows = λ w p q.
-                  let now-held = row-of-node (f .good) (spelt w) (p .symmetric, subst (Stands w) (sym (f .letters ∙ ap (removed e) (st .letters))) q) in
+                  let now-held = row-of-node (f .good) (spelt w) (rw (f .reading ∙ st .reading) (p .symmetric), subst (Stands w) (sym (f .letters ∙ ap (removed e) (st .letters))) q) in
                   let was = kept-before e b f (rowOf (afterRemoval e b) (spelt w)) (now-held .0) in
                   st .rows w p (stands-removed e s q) ∙ row-of good (rowOf (afterRemoval e b) (spelt w)) (spelt w) (was .0) (sym (was .1) ∙ now-held .1);
               bytes = f .bytes (st .bytes);
             } in
-            subst (State k (removed e s) row) (ap (λ (x : Outcome). x .store) (sym (remove-carried h))) made
+            subst (State m k (removed e s) row) (ap (λ (x : Outcome). x .store) (sym (remove-carried h))) made
 
-    pub remove-claim : Removed s row e o
+    pub remove-claim : Removed m s row e o
     unfolding accepted refusedOutcome refusedWith
     remove-claim =
         record {
@@ -344,8 +345,8 @@ module _ (k : ℕ) (s : Word) (row : Word → ℕ) (b : Word) (st : State k s ro
           only-if = λ z h. omega (arith, ap (λ (x : Outcome). x .reply .number) (remove-refused h));
           letter-is = λ z. ap (λ (r : Reply). r .first) (remove-reply (some z));
           moves = λ z.
-              moved (removed e s) s u (o .reply .flag) (ap (λ (r : Reply). r .flag) (remove-reply (some z)) ∙ takes-is)
-              (gone-in-removed plain plain-inverse e s) (new-in-removed plain e s);
+              moved m (removed e s) s u (o .reply .flag) (ap (λ (r : Reply). r .flag) (remove-reply (some z)) ∙ takes-is)
+              (gone-in-removed (ruleIn m) (rule-inverse m) e s) (new-in-removed (ruleIn m) e s);
           old-row = old-row;
           no-row = λ f. ⊎-elim (λ h. ap (λ (x : Outcome). x .reply .row) (remove-refused h)) (λ h. zero-first (takesOut e b) (rowOf b (spelt u)) (letterAt e s) (remove-reply h) f) (empty-or-some s);
         }
@@ -359,33 +360,33 @@ module _ (k : ℕ) (s : Word) (row : Word → ℕ) (b : Word) (st : State k s ro
             went : (s ≡ [] → ⊥) → o .reply .row ≡ row u
             went h =
                 let takes : takesOut e b ≡ true = sym (ap (λ (r : Reply). r .flag) (remove-reply h)) ∙ f in
-                let held = longest-at plain plain-inverse e s in
+                let held = longest-at (ruleIn m) (rule-inverse m) e s in
                 let missing : stands u (removed e s) ≡ false = not-true (stands u (removed e s)) (sym takes-is ∙ takes) in
-                let whole : Palindrome plain u =
+                let whole : Palindrome (ruleIn m) u =
                 record { non-empty = λ z. false-not-true missing (stands-is u (removed e s) (subst (λ (x : Word). Stands x (removed e s)) (sym z) (stands-empty (removed e s)))); symmetric = held .0 } in
                 ap (λ (r : Reply). r .row) (remove-reply h) ∙ ap (λ (t : Bool). cond t (rowOf b (spelt u)) 0) takes ∙ sym (st .rows u whole (held .1))
 
 -- ---- an addition undone at once
 
-module _ (k : ℕ) (s : Word) (row : Word → ℕ) (b : Word) (st : State k s row b) where
+module _ (m k : ℕ) (s : Word) (row : Word → ℕ) (b : Word) (st : State m k s row b) where
   module _ (e : End) (c : ℕ) (l l′ : Lent) (o o′ : Outcome) (a : Answers (add e c) b l o) (z : o .reply .number ≡ 0) (a′ : Answers (remove e) (o .store) l′ o′) where
     roomy : (isLetter c && ltb (length s) k) ≡ true
-    roomy = add-claim k s row b st e c l o a .only-if z
+    roomy = add-claim m k s row b st e c l o a .only-if z
 
-    in-room : room k s row b st e c l o a ≡ true
+    in-room : room m k s row b st e c l o a ≡ true
     in-room = roomy
 
     made : Updates·Added.Added e c b
-    made = facts k s row b st e c l o a in-room
+    made = facts m k s row b st e c l o a in-room
 
     stored : o .store ≡ afterAddition e c b
-    stored = store-is k s row b st e c l o a in-room
+    stored = store-is m k s row b st e c l o a in-room
 
     valid : isLetter c ≡ true
     valid = both-true (isLetter c) (ltb (length s) k) roomy .0
 
     below : sizeIn b < capacityIn b
-    below = omega (arith, ltb-true (length s) k (both-true (isLetter c) (ltb (length s) k) roomy .1), st .capacity, size-is k s row b st)
+    below = omega (arith, ltb-true (length s) k (both-true (isLetter c) (ltb (length s) k) roomy .1), st .capacity, size-is m k s row b st)
 
     letters-now : lettersIn (o .store) ≡ added e c s
     letters-now = ap lettersIn stored ∙ made .letters ∙ ap (added e c) (st .letters)
@@ -400,7 +401,7 @@ module _ (k : ℕ) (s : Word) (row : Word → ℕ) (b : Word) (st : State k s ro
     flag-now = ap (takesOut e) stored ∙ takes-back e c (st .good) valid below
 
     first-reply : o .reply ≡ accepted (bringsIn e c b) (cond (bringsIn e c b) (freeRow b) 0) 0 0
-    first-reply = reply-is k s row b st e c l o a in-room
+    first-reply = reply-is m k s row b st e c l o a in-room
 
     second-reply : o′ .reply ≡ accepted (takesOut e (o .store)) (cond (takesOut e (o .store)) (rowOf (o .store) (spelt (longestBefore e (o .store)))) 0) (letterAt e (lettersIn (o .store))) 0
     unfolding acceptedOutcome changed
@@ -413,8 +414,8 @@ module _ (k : ℕ) (s : Word) (row : Word → ℕ) (b : Word) (st : State k s ro
     unfolding longestBefore longestAfter
     row-now true h =
         let held = made .new-row h in
-        ap (λ (x : Word). rowOf x (spelt (longestAt plain e (lettersIn x)))) stored
-        ∙ ap (λ (t : Word). rowOf (afterAddition e c b) (spelt (longestAt plain e t))) (made .letters)
+        ap (λ (x : Word). rowOf x (spelt (longestAt (ruleOf x) e (lettersIn x)))) stored
+        ∙ ap₂ (λ (r : ℕ) (t : Word). rowOf (afterAddition e c b) (spelt (longestAt (ruleIn r) e t))) (made .reading) (made .letters)
         ∙ row-of (made .good) (freeRow b) (spelt (longestAfter e c b)) (held .0) (held .1)
     row-now false h = refl
 

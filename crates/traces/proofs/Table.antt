@@ -6,7 +6,7 @@ use mathlib.Core.List.{[], _∷_}
 use native.Mathlib.Omega.{arith}
 use lib.ListN.{length}
 use Rattle.palindromes.specs.Word.{Word, allLetters, member}
-use Rattle.palindromes.specs.Palindrome.{plain, Palindrome}
+use Rattle.palindromes.specs.Palindrome.{Palindrome}
 use Rattle.palindromes.specs.Place.{Stands}
 use Rattle.palindromes.specs.Record.{palindromes}
 use Rattle.palindromes.specs.Node.{Node, imaginary, spelt, lengthOf, linkOf, innerOf, spellingOf}
@@ -18,7 +18,7 @@ use Rattle.palindromes.proofs.Longest.{longest-suffix}
 use Rattle.eertree.specs.Covers.{NodeOf}
 use Rattle.eertree.proofs.Rows.{word-row, row-high}
 use Rattle.store.specs.Layout.{usedIn, lettersIn}
-use Rattle.store.specs.Good.{nodeIn, Good}
+use Rattle.store.specs.Good.{ruleIn, ruleOf, nodeIn, Good}
 use Rattle.store.proofs.Sizes.{used-below}
 use Rattle.transitions.specs.Rows.{rowOf}
 use Rattle.transitions.proofs.Rows.{covers, row-of, row-of-node, row-of-imaginary, row-of-empty}
@@ -32,20 +32,23 @@ use Rattle.outcome.proofs.Refusals.{find-accepted, row-accepted, row-free, spel
 use Rattle.traces.proofs.State.{State}
 
 -- the nodes that a palindrome links to and holds inside are nodes of the same record
-pub link-node : (w : Word) {s : Word} → Palindrome plain w → Stands w s → NodeOf plain s (linkOf plain (spelt w))
+pub link-node : (m : ℕ) (w : Word) {s : Word} → Palindrome (ruleIn m) w → Stands w s → NodeOf (ruleIn m) s (linkOf (ruleIn m) (spelt w))
 unfolding linkOf
-link-node [] p h = tt
-link-node (x ∷ w) p h = (longest-suffix plain w .symmetric, link-stands plain h)
+link-node m [] p h = tt
+link-node m (x ∷ w) p h = (longest-suffix (ruleIn m) w .symmetric, link-stands (ruleIn m) h)
 
-pub inner-node : (w : Word) {s : Word} → Palindrome plain w → Stands w s → NodeOf plain s (innerOf (spelt w))
+pub inner-node : (m : ℕ) (w : Word) {s : Word} → Palindrome (ruleIn m) w → Stands w s → NodeOf (ruleIn m) s (innerOf (spelt w))
 unfolding innerOf spellingOf
-inner-node [] p h = tt
-inner-node (x ∷ []) p h = tt
-inner-node (x ∷ y ∷ w) p h = inner-of plain (x ∷ y ∷ w) (p .symmetric) h
+inner-node m [] p h = tt
+inner-node m (x ∷ []) p h = tt
+inner-node m (x ∷ y ∷ w) p h = inner-of (ruleIn m) (x ∷ y ∷ w) (p .symmetric) h
 
-module _ (k : ℕ) (s : Word) (row : Word → ℕ) (b : Word) (st : State k s row b) where
+module _ (m k : ℕ) (s : Word) (row : Word → ℕ) (b : Word) (st : State m k s row b) where
   good : Good b
   good = st .good
+
+  rule-is : ruleOf b ≡ ruleIn m
+  rule-is = ap ruleIn (st .reading)
 
   -- what stands in the letters stands in the store's letters
   in-store : {w : Word} → Stands w s → Stands w (lettersIn b)
@@ -55,12 +58,12 @@ module _ (k : ℕ) (s : Word) (row : Word → ℕ) (b : Word) (st : State k s ro
   out-store {w} h = subst (Stands w) (st .letters) h
 
   -- the row of a repeat is used and holds it
-  pub row-holds : (w : Word) → Palindrome plain w → Stands w s → (usedIn b (row w) ≡ true) × (nodeIn b (row w) ≡ spelt w)
+  pub row-holds : (w : Word) → Palindrome (ruleIn m) w → Stands w s → (usedIn b (row w) ≡ true) × (nodeIn b (row w) ≡ spelt w)
   row-holds w p h =
-      subst (λ (r : ℕ). (usedIn b r ≡ true) × (nodeIn b r ≡ spelt w)) (sym (st .rows w p h)) (row-of-node good (spelt w) (p .symmetric, in-store h))
+      subst (λ (r : ℕ). (usedIn b r ≡ true) × (nodeIn b r ≡ spelt w)) (sym (st .rows w p h)) (row-of-node good (spelt w) (rw rule-is (p .symmetric), in-store h))
 
   -- the row of any node of the record
-  pub number-is : (v : Node) → NodeOf plain s v → numberOf row v ≡ rowOf b v
+  pub number-is : (v : Node) → NodeOf (ruleIn m) s v → numberOf row v ≡ rowOf b v
   unfolding numberOf
   number-is imaginary n = sym (row-of-imaginary good)
   number-is (spelt []) n = sym (row-of-empty good)
@@ -117,7 +120,7 @@ module _ (k : ℕ) (s : Word) (row : Word → ℕ) (b : Word) (st : State k s ro
   unfolding Promised refusedOutcome
   no-spelling-reply r u l o a = ap (λ (x : Outcome). x .reply) (a .good good ∙ refused-out (ask (spell r)) b l 6 (spell-free b l r u))
 
-  pub table : Table k s row b
+  pub table : Table m k s row b
   table =
       record {
         found = found-reply;

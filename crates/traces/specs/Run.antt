@@ -1,5 +1,5 @@
--- DEFINITIONS. Lists of calls from an opening, the letters that follow from their arguments alone, and the rows that follow from their arguments and
--- replies alone: 01 "Lists of calls, for demand 3". Nothing here is proved.
+-- DEFINITIONS. Lists of calls from an opening, as a host sees them; the letters that follow from the calls' arguments alone, and the rows that follow from
+-- their arguments and answers alone: 01 "Lists of calls, for demand 3". Nothing here is proved.
 use Prim.Native.Nat.{ℕ, zero}
 use mathlib.Core.Path.{_≡_}
 use mathlib.Core.Bool.{cond, _&&_}
@@ -7,51 +7,66 @@ use mathlib.Core.List.{List, [], _∷_}
 use lib.Dec.{ltb}
 use lib.ListN.{length}
 use Rattle.palindromes.specs.Word.{Word, isLetter, sameWord}
-use Rattle.palindromes.specs.Palindrome.{plain}
 use Rattle.palindromes.specs.End.{added, removed, longestAt}
 use Rattle.palindromes.specs.Refusal.{Call, opening, add, remove, ask}
-use Rattle.outcome.specs.Reply.{Reply}
-use Rattle.outcome.specs.Outcome.{Lent, Outcome, outcome, Answers}
+use Rattle.store.specs.Good.{ruleIn}
+use Rattle.outcome.specs.Reply.{Reply, refusalIn, unpacked}
+use Rattle.outcome.specs.Outcome.{Lent}
+use Rattle.outcome.specs.Promise.{Promise, OpeningPromise}
 
--- a call with the buffers that it was lent, and what it came to
-pub record Turn : Type 0 where
+-- one call of a host: the call with its arguments, the buffers that it was lent beside the store, the number that it answered, and the store and the
+-- buffers after it
+pub record Step : Type 0 where
   pub call : Call
   pub lent : Lent
-  pub came : Outcome
+  pub answer : ℕ
+  pub store : Word
+  pub after : Lent
 
--- what a call on the store b may come to: exactly what the host's functions promise. An opening in a list is a refused one
-unfoldable pub Promised : Call → Word → Lent → Outcome → Type 0
-Promised (opening k) b l o = (o ≡ outcome (opening k) b l) × (o .reply .number ≡ 0 → ⊥)
-Promised (add e c) b l o = Answers (add e c) b l o
-Promised (remove e) b l o = Answers (remove e) b l o
-Promised (ask q) b l o = Answers (ask q) b l o
+-- the contract of the exported function, in its own words. 01 "A list holds any store calls but accepted openings": an opening is a refused one, and it is
+-- lent nothing but the store
+unfoldable pub Stated : Call → Word → Lent → ℕ → Word → Lent → Type 0
+Stated (opening k) b l a b′ l′ = OpeningPromise k b a b′ × (l′ ≡ l) × (refusalIn a ≡ 0 → ⊥)
+Stated (add e c) b l a b′ l′ = Promise (add e c) b l a b′ l′
+Stated (remove e) b l a b′ l′ = Promise (remove e) b l a b′ l′
+Stated (ask q) b l a b′ l′ = Promise (ask q) b l a b′ l′
 
--- a list of calls, the last one first: each gets the whole store as the one before left it, and nobody else writes there
-pub data Run (b : Word) : List Turn → Word → Type 0 where
-  begun : Run b [] b
-  turn : {xs : List Turn} {b′ : Word} → Run b xs b′ → (x : Turn) → Promised (x .call) b′ (x .lent) (x .came) → Run b (x ∷ xs) (x .came .store)
+abbrev pub Keeps : Word → Step → Type 0
+Keeps b x = Stated (x .call) b (x .lent) (x .answer) (x .store) (x .after)
+
+-- the store after the list, the last call first: 01 "as the last call left it, and nobody else writes there"
+unfoldable pub storeAfter : Word → List Step → Word
+storeAfter b [] = b
+storeAfter b (x ∷ xs) = x .store
+
+-- a list of calls on the store b that an opening left, the last one first. Each keeps its contract on the whole store as the call before left it; nothing
+-- else is asked of it
+pub data Run (b : Word) : List Step → Type 0 where
+  begun : Run b []
+  called : {xs : List Step} → Run b xs → (x : Step) → Keeps (storeAfter b xs) x → Run b (x ∷ xs)
 
 -- the letters after one more call: 01 "an addition is accepted exactly if its letter is valid and the record is below full length; the letter then joins
 -- that end. A removal is accepted exactly if a letter stands; the one at that end then goes. Every other call, and every refused one, leaves the letters"
 unfoldable pub lettersStep : ℕ → Word → Call → Word
-lettersStep k s (opening m) = s
+lettersStep k s (opening n) = s
 lettersStep k s (add e c) = cond (isLetter c && ltb (length s) k) (added e c s) s
 lettersStep k s (remove e) = removed e s
 lettersStep k s (ask q) = s
 
 -- the letters after the list, in a store of capacity k, from the arguments alone
-unfoldable pub lettersAfter : ℕ → List Turn → Word
+unfoldable pub lettersAfter : ℕ → List Step → Word
 lettersAfter k [] = []
 lettersAfter k (x ∷ xs) = lettersStep k (lettersAfter k xs) (x .call)
 
--- the row of a repeat after one more call: an addition that answers 1 brings in the longest repeat at its end, with the row that it answers
-unfoldable pub rowStep : Word → Call → Reply → (Word → ℕ) → Word → ℕ
-rowStep s (opening m) r old w = old w
-rowStep s (add e c) r old w = cond (r .flag && sameWord w (longestAt plain e (added e c s))) (r .row) (old w)
-rowStep s (remove e) r old w = old w
-rowStep s (ask q) r old w = old w
+-- the row of a repeat after one more call, in the reading m: an addition that answers 1 brings in the longest repeat at its end, with the row that it
+-- answers
+unfoldable pub rowStep : ℕ → Word → Call → Reply → (Word → ℕ) → Word → ℕ
+rowStep m s (opening n) r old w = old w
+rowStep m s (add e c) r old w = cond (r .flag && sameWord w (longestAt (ruleIn m) e (added e c s))) (r .row) (old w)
+rowStep m s (remove e) r old w = old w
+rowStep m s (ask q) r old w = old w
 
--- 01 "the row that it got from the last call that brought it in", from the arguments and the replies alone
-unfoldable pub rowAfter : ℕ → List Turn → Word → ℕ
-rowAfter k [] w = zero
-rowAfter k (x ∷ xs) w = rowStep (lettersAfter k xs) (x .call) (x .came .reply) (λ v. rowAfter k xs v) w
+-- 01 "the row that it got from the last call that brought it in (an addition's is the one it answered)", from the arguments and the answers alone
+unfoldable pub rowAfter : ℕ → ℕ → List Step → Word → ℕ
+rowAfter m k [] w = zero
+rowAfter m k (x ∷ xs) w = rowStep m (lettersAfter k xs) (x .call) (unpacked (x .answer)) (λ v. rowAfter m k xs v) w
