@@ -58,9 +58,10 @@ module _ (σ : ℕ → ℕ) (s : Word) where
 
   eertree-once : NoneTwice (eertree σ s)
   unfolding eertree nodes
-  eertree-once =
-      (λ m. ⊎-elim roots-differ (not-a-word imaginary (palindromes σ s) (λ w h e. not-imaginary e)) (List·Memᴰ·cases-cons m),
-      (not-a-word (spelt []) (palindromes σ s) no-empty, words-once (palindromes σ s) (palindromes-once σ s)))
+  eertree-once = (
+    λ m. ⊎-elim roots-differ (not-a-word imaginary (palindromes σ s) (λ w h e. not-imaginary e)) (List·Memᴰ·cases-cons m),
+    (not-a-word (spelt []) (palindromes σ s) no-empty, words-once (palindromes σ s) (palindromes-once σ s)),
+  )
 
   -- a node is one of the list, and each of the list is one
   listed : (v : Node) → isNode σ s v ≡ true → List·Memᴰ v (nodes σ s)

@@ -4,3 +4,4 @@ pub mod Refusals
 pub mod Promises
 pub mod Packing
 pub mod Fits
+pub mod Told

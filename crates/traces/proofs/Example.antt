@@ -1,23 +1,35 @@
--- A list of calls that meets the hypotheses of `every-list`: a store of 400 sevens, opened for three letters; A joins the right end, C the left one, the letter at the right
--- goes, and the length is asked. Each call comes to its outcome by the definitions; the letters are C alone.
+-- A list of calls that meets the hypotheses of `every-list`, and each claim drawn from it once. A store of 400 sevens is opened for three letters; A joins the right end and C the
+-- left one; an opening for no letters and the letter N are refused; C is looked for and row 2 is asked; C joins the right end, which makes CAC; A is refused, since the record is
+-- full; and the letter at the right goes. Each call comes to its outcome by the definitions.
 use Prim.Native.Nat.{ℕ, zero, suc, _≤_, _<_}
 use native.Mathlib.Omega.{arith}
-use mathlib.Core.Path.{_≡_, refl, sym, ap, subst}
-use mathlib.Core.List.{List, [], _∷_}
+use mathlib.Core.Path.{_≡_, refl, sym, ap, _∙_}
+use mathlib.Core.Bool.{true, false, _&&_}
+use mathlib.Core.List.{List, [], _∷_, cons-ne-nil}
+use lib.Dec.{ltb}
 use lib.ListN.{length, getD, replicate, length-replicate}
-use Rattle.palindromes.specs.Word.{Word, isLetter}
-use Rattle.palindromes.specs.End.{atLeft, atRight, added, removed, withoutLast}
-use Rattle.palindromes.specs.Refusal.{Call, ask, opening, add, remove, theLength, storeSize, refusal}
+use Rattle.palindromes.specs.Word.{Word, isLetter, allLetters, sameWord}
+use Rattle.palindromes.specs.Palindrome.{mirror, isSymmetric, Palindrome}
+use Rattle.palindromes.specs.Place.{Stands, startsWith, placesFrom, places, frequency, stands, standsOnce}
+use Rattle.palindromes.specs.Record.{longestSuffix}
+use Rattle.palindromes.specs.End.{atLeft, atRight, added, removed, withoutLast, longestAt}
+use Rattle.palindromes.specs.Node.{spelt, linkOf, innerOf}
+use Rattle.palindromes.specs.Refusal.{theRow, spell, find, Call, opening, add, remove, ask, storeSize, refusal}
+use Rattle.palindromes.proofs.Tests.{false-not-true}
+use Rattle.palindromes.proofs.Places.{stands-is}
+use Rattle.store.specs.Good.{ruleIn, ruleOf, Good}
 use Rattle.transitions.specs.Bytes.{Bytes}
-use Rattle.transitions.specs.Opening.{opened}
-use Rattle.store.specs.Good.{ruleOf}
+use Rattle.outcome.specs.Reply.{accepted, refusedWith, packed, refusalIn, unpacked}
 use Rattle.outcome.specs.Outcome.{Outcome, outcome, acceptedOutcome, changed, viewIn}
-use Rattle.outcome.specs.Reply.{accepted as done}
-use Rattle.outcome.specs.Promise.{nothing}
-use Rattle.outcome.proofs.Refusals.{opening-accepted, carried-out}
-use Rattle.traces.specs.Run.{Turn, Run, begun, lettersStep, lettersAfter}
-use Rattle.traces.specs.Claims.{Claims}
-use Rattle.traces.proofs.Theorem.{every-list, goes-on}
+use Rattle.outcome.specs.Promise.{nothing, OpeningPromise}
+use Rattle.outcome.proofs.Refusals.{opening-accepted, opening-capacity, add-letter, carried-out}
+use Rattle.outcome.proofs.Told.{opening-told}
+use Rattle.traces.specs.Run.{Step, storeAfter, Run, begun, lettersStep, lettersAfter, rowAfter}
+use Rattle.traces.specs.Claims.{Replies, SameAnswer, numberOf, Kept, Called, EachCall, Undone, Claims}
+use Rattle.traces.proofs.Theorem.{every-list, always-good}
+use Rattle.traces.proofs.Possible.{stepOf, MayStand, keeps-contract, goes-on}
+
+-- ---- the opening
 
 pub sevens : Word
 sevens = replicate 400 7
@@ -32,51 +44,261 @@ all-bytes : Bytes sevens
 unfolding sevens
 all-bytes i = all-sevens 400 i
 
-room : (1 ≤ 3) × (3 ≤ 1024) × (storeSize 3 ≤ length sevens)
+room : storeSize 3 ≤ length sevens
 unfolding sevens storeSize
-room = (omega arith, omega arith, omega (arith, length-replicate {A = ℕ} 400 7))
+room = omega (arith, length-replicate {A = ℕ} 400 7)
 
--- one call more, which comes to its outcome
-abbrev next : Call → Word → Turn
-next call b = record { call = call; lent = nothing; came = outcome call b nothing }
+abbrev opened : Outcome
+opened = outcome (opening 3) sevens nothing
 
-abbrev b₀ : Word
-b₀ = opened 3 sevens
+accepted-opening : outcome (opening 3) sevens nothing ≡ acceptedOutcome (opening 3) sevens nothing
+accepted-opening = carried-out (opening 3) sevens nothing (opening-accepted sevens nothing 3 refl room)
 
-abbrev b₁ : Word
-b₁ = outcome (add atRight 65) b₀ nothing .store
+promise : OpeningPromise 3 sevens (packed (opened .reply)) (opened .store)
+unfolding acceptedOutcome changed
+promise = record { left = record { reply = refl; store = refl; lent = sym (ap (λ (o : Outcome). o .lent) accepted-opening) } }
 
-abbrev b₂ : Word
-b₂ = outcome (add atLeft 67) b₁ nothing .store
+answers-zero : refusalIn (packed (opened .reply)) ≡ 0
+unfolding unpacked acceptedOutcome changed accepted
+answers-zero = ap (λ r. r .number) (opening-told {l = nothing} promise refl .reply ∙ ap (λ (o : Outcome). o .reply) accepted-opening)
 
-abbrev b₃ : Word
-b₃ = outcome (remove atRight) b₂ nothing .store
+-- ---- the calls
 
--- the calls, the last one first
-pub calls : List Turn
-calls = next (ask theLength) b₃ ∷ next (remove atRight) b₂ ∷ next (add atLeft 67) b₁ ∷ next (add atRight 65) b₀ ∷ []
+abbrev start : Word
+start = opened .store
 
-pub a-run : Run b₀ calls (outcome (ask theLength) b₃ nothing .store)
-unfolding calls
-a-run =
-    goes-on 3 sevens all-bytes room
-    (goes-on 3 sevens all-bytes room (goes-on 3 sevens all-bytes room (goes-on 3 sevens all-bytes room begun (add atRight 65) nothing tt) (add atLeft 67) nothing tt) (remove atRight) nothing tt)
-    (ask theLength)
-    nothing
-    tt
+-- a list with one call more, which comes to its outcome
+abbrev more : List Step → Call → List Step
+more xs call = stepOf call (storeAfter start xs) nothing ∷ xs
 
--- the letters that it leaves, from the arguments alone
-pub letters-left : lettersAfter 3 calls ≡ 67 ∷ []
-unfolding calls lettersAfter lettersStep added removed withoutLast isLetter
-letters-left = refl
+pub with-A : List Step
+with-A = more [] (add atRight 65)
 
--- the opening is accepted, and the theorem holds of the list
-accepted : refusal (ruleOf sevens) (viewIn sevens nothing) (opening 3) ≡ 0
-accepted = opening-accepted sevens nothing 3 refl (room .2)
+pub with-CA : List Step
+with-CA = more with-A (add atLeft 67)
 
-pub its-claims : Claims 3 calls (outcome (ask theLength) b₃ nothing .store)
-unfolding acceptedOutcome changed done
-its-claims =
-    let e = carried-out (opening 3) sevens nothing accepted in
-    every-list 3 sevens nothing (outcome (opening 3) sevens nothing) all-bytes refl (ap (λ (o : Outcome). o .reply .number) e)
-    (subst (λ (o : Outcome). Run (o .store) calls (outcome (ask theLength) b₃ nothing .store)) (sym e) a-run)
+pub opening-tried : List Step
+opening-tried = more with-CA (opening 0)
+
+pub N-tried : List Step
+N-tried = more opening-tried (add atRight 78)
+
+pub C-sought : List Step
+C-sought = more N-tried (ask (find (67 ∷ [])))
+
+pub row-asked : List Step
+row-asked = more C-sought (ask (theRow 2))
+
+pub with-CAC : List Step
+with-CAC = more row-asked (add atRight 67)
+
+pub A-tried : List Step
+A-tried = more with-CAC (add atLeft 65)
+
+pub calls : List Step
+calls = more A-tried (remove atRight)
+
+-- an opening for no letters is refused with 1, whatever the store
+zero-refused : (b : Word) → refusal (ruleOf b) (viewIn b nothing) (opening 0) ≡ 0 → ⊥
+zero-refused b z = omega (arith, opening-capacity b nothing 0 refl)
+
+one-more : {xs : List Step} → Run start xs → (call : Call) → MayStand call (storeAfter start xs) nothing → Run start (more xs call)
+one-more r call h = goes-on 3 sevens all-bytes (packed (opened .reply)) start promise answers-zero r call nothing h
+
+run-to-CA : Run start with-CA
+unfolding with-CA with-A
+run-to-CA = one-more (one-more begun (add atRight 65) tt) (add atLeft 67) tt
+
+run-to-row : Run start row-asked
+unfolding row-asked C-sought N-tried opening-tried
+run-to-row =
+    let tried = one-more (one-more run-to-CA (opening 0) (refl, zero-refused (storeAfter start with-CA))) (add atRight 78) tt in
+    one-more (one-more tried (ask (find (67 ∷ []))) tt) (ask (theRow 2)) tt
+
+pub a-run : Run start calls
+unfolding calls A-tried with-CAC
+a-run = one-more (one-more (one-more run-to-row (add atRight 67) tt) (add atLeft 65) tt) (remove atRight) tt
+
+pub its-claims : Claims 0 3 start calls
+its-claims = every-list 3 sevens all-bytes (packed (opened .reply)) start promise answers-zero a-run
+
+-- ---- the letters, from the arguments alone
+
+before-CAC : lettersAfter 3 row-asked ≡ 67 ∷ 65 ∷ []
+unfolding row-asked C-sought N-tried opening-tried with-CA with-A lettersAfter lettersStep added isLetter
+before-CAC = refl
+
+in-CAC : lettersAfter 3 with-CAC ≡ 67 ∷ 65 ∷ 67 ∷ []
+unfolding with-CAC lettersAfter lettersStep added isLetter
+in-CAC = rw before-CAC refl
+
+letters-full : lettersAfter 3 A-tried ≡ 67 ∷ 65 ∷ 67 ∷ []
+unfolding A-tried lettersAfter lettersStep isLetter
+letters-full = rw in-CAC refl
+
+pub letters-left : lettersAfter 3 calls ≡ 67 ∷ 65 ∷ []
+unfolding calls lettersAfter lettersStep removed withoutLast
+letters-left = rw letters-full refl
+
+-- ---- after the list: C and A stand, each in a row of its own
+
+abbrev end : Word
+end = storeAfter start calls
+
+abbrev rowNow : Word → ℕ
+rowNow w = rowAfter 0 3 calls w
+
+letter : (c : ℕ) → Palindrome (ruleIn 0) (c ∷ [])
+unfolding mirror
+letter c = record { non-empty = cons-ne-nil c []; symmetric = refl }
+
+C-stands : Stands (67 ∷ []) (lettersAfter 3 calls)
+C-stands = record { before = []; after = 65 ∷ []; whole = sym letters-left }
+
+A-stands : Stands (65 ∷ []) (lettersAfter 3 calls)
+A-stands = record { before = 67 ∷ []; after = []; whole = sym letters-left }
+
+pub still-good : Good end
+still-good = its-claims .shown .good
+
+pub C-found : Replies (find (67 ∷ [])) end (accepted true (rowNow (67 ∷ [])) 0 0)
+C-found = its-claims .table .found (67 ∷ []) (letter 67) C-stands
+
+pub C-in-range : (2 ≤ rowNow (67 ∷ [])) × (rowNow (67 ∷ []) ≤ 4)
+C-in-range = its-claims .table .in-range (67 ∷ []) (letter 67) C-stands
+
+pub own-rows : rowNow (67 ∷ []) ≡ rowNow (65 ∷ []) → ⊥
+own-rows e =
+    let same = its-claims .table .alone (67 ∷ []) (65 ∷ []) (letter 67) C-stands (letter 65) A-stands e in
+    omega (arith, ap (λ (w : Word). getD w 0 0) same)
+
+-- C's link is the empty string, in row 1, its length 1, and its inner row the imaginary one, 0
+pub C-fields : Replies (theRow (rowNow (67 ∷ []))) end (accepted false 1 1 0)
+unfolding numberOf linkOf innerOf longestSuffix
+C-fields = its-claims .table .fields (67 ∷ []) (letter 67) C-stands
+
+AA-nowhere : Stands (65 ∷ 65 ∷ []) (lettersAfter 3 calls) → ⊥
+unfolding stands frequency places placesFrom startsWith
+AA-nowhere h =
+    let no : stands (65 ∷ 65 ∷ []) (lettersAfter 3 calls) ≡ false = rw letters-left refl in
+    false-not-true no (stands-is (65 ∷ 65 ∷ []) (lettersAfter 3 calls) h)
+
+pub AA-absent : Replies (find (65 ∷ 65 ∷ [])) end (accepted false 0 0 0)
+unfolding allLetters isLetter
+AA-absent = its-claims .table .absent (65 ∷ 65 ∷ []) (cons-ne-nil 65 (65 ∷ [])) refl (λ p h. AA-nowhere h)
+
+-- no repeat has row 5, which is over capacity + 1
+row-five : (w : Word) → Palindrome (ruleIn 0) w → Stands w (lettersAfter 3 calls) → rowNow w ≡ 5 → ⊥
+row-five w p h e = omega (arith, its-claims .table .in-range w p h .1, e)
+
+pub five-refused : Replies (theRow 5) end (refusedWith 7)
+five-refused = its-claims .table .no-row 5 (omega arith) row-five
+
+pub five-unspelt : Replies (spell 5) end (refusedWith 7)
+five-unspelt = its-claims .table .no-spelling 5 (omega arith) row-five
+
+-- ---- each call: with the calls before it
+
+abbrev answered : List Step → Call → ℕ
+answered xs call = stepOf call (storeAfter start xs) nothing .answer
+
+of-removal : Called 0 3 (lettersAfter 3 A-tried) (λ w. rowAfter 0 3 A-tried w) (λ w. rowAfter 0 3 calls w) (storeAfter start A-tried) (stepOf (remove atRight) (storeAfter start A-tried) nothing)
+unfolding EachCall calls
+of-removal = its-claims .each .0
+
+-- the removal is accepted and takes C, and CAC with it, which stood once only; C itself stays, in its row
+removal-accepted : unpacked (answered A-tried (remove atRight)) .number ≡ 0
+removal-accepted = of-removal .removal atRight refl .accepted-if (λ e. cons-ne-nil 67 (65 ∷ 67 ∷ []) (sym letters-full ∙ e))
+
+pub CAC-went : unpacked (answered A-tried (remove atRight)) .flag ≡ true
+unfolding standsOnce frequency places placesFrom startsWith longestAt longestSuffix isSymmetric mirror sameWord
+CAC-went = of-removal .removal atRight refl .goes-out removal-accepted ∙ rw letters-full refl
+
+C-stood : Stands (67 ∷ []) (lettersAfter 3 A-tried)
+C-stood = record { before = []; after = 65 ∷ 67 ∷ []; whole = sym letters-full }
+
+pub C-kept : Kept (67 ∷ []) (λ w. rowAfter 0 3 A-tried w) (λ w. rowAfter 0 3 calls w) (storeAfter start A-tried) (stepOf (remove atRight) (storeAfter start A-tried) nothing .store)
+unfolding calls lettersAfter
+C-kept = of-removal .kept (67 ∷ []) (letter 67) C-stood C-stands
+
+-- the letter that does not fit is refused, N with 4 and the opening for no letters with 1, and each leaves the store
+abbrev earlier : List Step → Type 0
+earlier xs = EachCall 0 3 start xs
+
+each-to-row : earlier row-asked
+unfolding EachCall calls A-tried with-CAC
+each-to-row = its-claims .each .1 .1 .1
+
+of-addition : Called 0 3 (lettersAfter 3 row-asked) (λ w. rowAfter 0 3 row-asked w) (λ w. rowAfter 0 3 with-CAC w) (storeAfter start row-asked) (stepOf (add atRight 67) (storeAfter start row-asked) nothing)
+unfolding EachCall calls A-tried with-CAC
+of-addition = its-claims .each .1 .1 .0
+
+of-refused-A : Called 0 3 (lettersAfter 3 with-CAC) (λ w. rowAfter 0 3 with-CAC w) (λ w. rowAfter 0 3 A-tried w) (storeAfter start with-CAC) (stepOf (add atLeft 65) (storeAfter start with-CAC) nothing)
+unfolding EachCall calls A-tried
+of-refused-A = its-claims .each .1 .0
+
+of-refused-N : Called 0 3 (lettersAfter 3 opening-tried) (λ w. rowAfter 0 3 opening-tried w) (λ w. rowAfter 0 3 N-tried w) (storeAfter start opening-tried) (stepOf (add atRight 78) (storeAfter start opening-tried) nothing)
+unfolding EachCall row-asked C-sought N-tried
+of-refused-N = each-to-row .1 .1 .0
+
+of-refused-opening : Called 0 3 (lettersAfter 3 with-CA) (λ w. rowAfter 0 3 with-CA w) (λ w. rowAfter 0 3 opening-tried w) (storeAfter start with-CA) (stepOf (opening 0) (storeAfter start with-CA) nothing)
+unfolding EachCall row-asked C-sought N-tried opening-tried
+of-refused-opening = each-to-row .1 .1 .1 .0
+
+of-question : Called 0 3 (lettersAfter 3 N-tried) (λ w. rowAfter 0 3 N-tried w) (λ w. rowAfter 0 3 C-sought w) (storeAfter start N-tried) (stepOf (ask (find (67 ∷ []))) (storeAfter start N-tried) nothing)
+unfolding EachCall row-asked C-sought
+of-question = each-to-row .1 .0
+
+-- the addition brings in CAC, which stood nowhere before
+pub CAC-came : unpacked (answered row-asked (add atRight 67)) .flag ≡ true
+unfolding stands frequency places placesFrom startsWith longestAt longestSuffix isSymmetric mirror sameWord added isLetter
+CAC-came =
+    let claim = of-addition .addition atRight 67 refl in
+    claim .comes-in (claim .accepted-if (rw before-CAC refl)) ∙ rw before-CAC refl
+
+-- a full record takes no letter
+pub A-refused : refusalIn (answered with-CAC (add atLeft 65)) ≡ 0 → ⊥
+unfolding isLetter unpacked
+A-refused z =
+    let no : (isLetter 65 && ltb (length (lettersAfter 3 with-CAC)) 3) ≡ false = rw in-CAC refl in
+    false-not-true no (of-refused-A .addition atLeft 65 refl .only-if z)
+
+pub N-answers-four : refusalIn (answered opening-tried (add atRight 78)) ≡ 4
+unfolding isLetter
+N-answers-four = of-refused-N .number-is ∙ add-letter (storeAfter start opening-tried) nothing atRight 78 refl
+
+pub opening-answers-one : refusalIn (answered with-CA (opening 0)) ≡ 1
+opening-answers-one = of-refused-opening .number-is ∙ opening-capacity (storeAfter start with-CA) nothing 0 refl
+
+pub N-leaves-store : stepOf (add atRight 78) (storeAfter start opening-tried) nothing .store ≡ storeAfter start opening-tried
+N-leaves-store = of-refused-N .refused-leaves (λ z. omega (arith, N-answers-four)) .1
+
+-- the search changes no byte of the store, and does not answer 3
+pub search-leaves-store : stepOf (ask (find (67 ∷ []))) (storeAfter start N-tried) nothing .store ≡ storeAfter start N-tried
+search-leaves-store = of-question .question-leaves (find (67 ∷ [])) refl
+
+pub search-not-three : refusalIn (answered N-tried (ask (find (67 ∷ [])))) ≡ 3 → ⊥
+search-not-three = of-question .never-three
+
+-- ---- C added at the right once more and taken back: every question answers as before
+
+abbrev first : Step
+first = stepOf (add atRight 67) end nothing
+
+abbrev second : Step
+second = stepOf (remove atRight) (first .store) nothing
+
+longer : Run start (first ∷ calls)
+longer = one-more a-run (add atRight 67) tt
+
+first-accepted : refusalIn (first .answer) ≡ 0
+unfolding EachCall isLetter unpacked
+first-accepted =
+    let claims = every-list 3 sevens all-bytes (packed (opened .reply)) start promise answers-zero longer in
+    claims .each .0 .addition atRight 67 refl .accepted-if (rw letters-left refl)
+
+pub taken-back : Undone end 67 first second
+unfolding storeAfter
+taken-back =
+    its-claims .undone atRight 67 first second refl (keeps-contract (add atRight 67) end nothing still-good tt) first-accepted refl
+    (keeps-contract (remove atRight) (first .store) nothing (always-good 3 sevens all-bytes (packed (opened .reply)) start promise answers-zero longer) tt)

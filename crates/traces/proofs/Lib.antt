@@ -1,6 +1,10 @@
 -- the theorem about lists of calls
 pub mod State
 pub mod Table
-pub mod Step
+pub mod Shared
+pub mod Addition
+pub mod Removal
+pub mod Undone
 pub mod Theorem
+pub mod Possible
 pub mod Example

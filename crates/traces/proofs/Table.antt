@@ -1,6 +1,6 @@
 -- The second point of the claim: what find, the row question and spell answer in a store whose state is known. Rests on `Refusals` and on the laws of rows.
 use Prim.Native.Nat.{ℕ, _≤_}
-use mathlib.Core.Path.{_≡_, sym, ap, ap₂, _∙_, subst}
+use mathlib.Core.Path.{_≡_, sym, ap, ap₂, _∙_, subst, subst₂}
 use mathlib.Core.Bool.{Bool, true, false, cond}
 use mathlib.Core.List.{[], _∷_}
 use native.Mathlib.Omega.{arith}
@@ -10,24 +10,26 @@ use Rattle.palindromes.specs.Palindrome.{Palindrome}
 use Rattle.palindromes.specs.Place.{Stands}
 use Rattle.palindromes.specs.Record.{palindromes}
 use Rattle.palindromes.specs.Node.{Node, imaginary, spelt, lengthOf, linkOf, innerOf, spellingOf}
-use Rattle.palindromes.specs.Refusal.{ask, theRow, spell, find}
+use Rattle.palindromes.specs.Refusal.{Question, ask, theRow, spell, find}
 use Rattle.palindromes.proofs.Tests.{not-true-false}
 use Rattle.palindromes.proofs.Palindromes.{palindromes-true, palindromes-is}
 use Rattle.palindromes.proofs.Growth.{link-stands, inner-of}
 use Rattle.palindromes.proofs.Longest.{longest-suffix}
 use Rattle.eertree.specs.Covers.{NodeOf}
+use Rattle.eertree.specs.Entries.{IsEertree}
+use Rattle.eertree.proofs.Entries.{is-eertree}
 use Rattle.eertree.proofs.Rows.{word-row, row-high}
 use Rattle.store.specs.Layout.{usedIn, lettersIn}
-use Rattle.store.specs.Good.{ruleIn, ruleOf, nodeIn, Good}
+use Rattle.store.specs.Good.{ruleIn, ruleOf, tableIn, nodeIn, Good}
 use Rattle.store.proofs.Sizes.{used-below}
 use Rattle.transitions.specs.Rows.{rowOf}
 use Rattle.transitions.proofs.Rows.{covers, row-of, row-of-node, row-of-imaginary, row-of-empty}
 use Rattle.transitions.proofs.Letters.{letters-piece}
-use Rattle.outcome.specs.Reply.{refusedWith, accepted, twosComplement}
-use Rattle.outcome.specs.Outcome.{Outcome, outcome, acceptedOutcome, answerTo, lentAfter, refusedOutcome, changed}
-use Rattle.traces.specs.Run.{Promised}
-use Rattle.traces.specs.Claims.{Replies, numberOf, Table}
+use Rattle.outcome.specs.Reply.{Reply, refusedWith, accepted, twosComplement}
+use Rattle.outcome.specs.Outcome.{Lent, Outcome, outcome, acceptedOutcome, answerTo, lentAfter, refusedOutcome}
+use Rattle.traces.specs.Claims.{Replies, Shown, numberOf, Table}
 use Rattle.outcome.proofs.Replies.{reply-of-found}
+use Rattle.outcome.proofs.Told.{told}
 use Rattle.outcome.proofs.Refusals.{find-accepted, row-accepted, row-free, spell-free, carried-out, refused-out}
 use Rattle.traces.proofs.State.{State}
 
@@ -73,64 +75,85 @@ module _ (m k : ℕ) (s : Word) (row : Word → ℕ) (b : Word) (st : State m k 
       not-nil e = let z : _≡_ {A = ℕ} 0 1 = cc in omega arith
 
   -- a row from 2 on that no repeat has is free
-  pub unheld : (r : ℕ) → 2 ≤ r → ((w : Word) → Palindrome plain w → Stands w s → row w ≡ r → ⊥) → usedIn b r ≡ false
+  pub unheld : (r : ℕ) → 2 ≤ r → ((w : Word) → Palindrome (ruleIn m) w → Stands w s → row w ≡ r → ⊥) → usedIn b r ≡ false
   unheld r h n = not-true-false (usedIn b r) held
     where
       held : usedIn b r ≡ true → ⊥
       held u =
-          let m = word-row (covers good) r u h in
-          n (m .0) (m .2) (out-store (m .3)) (st .rows (m .0) (m .2) (out-store (m .3)) ∙ row-of good r (spelt (m .0)) u (m .1))
+          let d = word-row (covers good) r u h in
+          let p : Palindrome (ruleIn m) (d .0) = subst (λ (σ : ℕ → ℕ). Palindrome σ (d .0)) rule-is (d .2) in
+          n (d .0) p (out-store (d .3)) (st .rows (d .0) p (out-store (d .3)) ∙ row-of good r (spelt (d .0)) u (d .1))
 
-  -- ---- the replies
+  -- ---- the outcomes
 
-  found-reply : (w : Word) → Palindrome plain w → Stands w s → Replies (ask (find w)) b (accepted true (row w) 0 0)
-  unfolding Promised acceptedOutcome answerTo lentAfter changed
-  found-reply w p h l o a =
-      let out : outcome (ask (find w)) b l ≡ acceptedOutcome (ask (find w)) b l = carried-out (ask (find w)) b l (find-accepted b l w (p .non-empty) (letters-piece (in-store h) (good .letters))) in
-      let there : member w (palindromes plain (lettersIn b)) ≡ true = palindromes-is plain w (lettersIn b) p (in-store h) in
-      ap (λ (x : Outcome). x .reply) (a .good good ∙ out)
-      ∙ reply-of-found (member w (palindromes plain (lettersIn b))) (rowOf b (spelt w))
-      ∙ ap₂ (λ (t : Bool) (r : ℕ). accepted t (cond t r 0) 0 0) there (sym (st .rows w p h))
+  -- find and the row question, carried out: this answer, and neither store nor buffers change
+  abbrev Unchanged : Reply → Lent → Outcome
+  Unchanged r l = record { reply = r; store = b; lent = l }
 
-  absent-reply : (w : Word) → (w ≡ [] → ⊥) → allLetters w ≡ true → (Palindrome plain w → Stands w s → ⊥) → Replies (ask (find w)) b (accepted false 0 0 0)
-  unfolding Promised acceptedOutcome answerTo lentAfter changed
-  absent-reply w m g n l o a =
-      let out : outcome (ask (find w)) b l ≡ acceptedOutcome (ask (find w)) b l = carried-out (ask (find w)) b l (find-accepted b l w m g) in
-      let missing : member w (palindromes plain (lettersIn b)) ≡ false =
-      not-true-false (member w (palindromes plain (lettersIn b))) (λ e. let h = palindromes-true plain w (lettersIn b) e in n (h .0) (out-store (h .1))) in
-      ap (λ (x : Outcome). x .reply) (a .good good ∙ out)
-      ∙ reply-of-found (member w (palindromes plain (lettersIn b))) (rowOf b (spelt w))
-      ∙ ap (λ (t : Bool). accepted t (cond t (rowOf b (spelt w)) 0) 0 0) missing
+  pub find-outcome : (w : Word) → Palindrome (ruleIn m) w → Stands w s → (l : Lent) → outcome (ask (find w)) b l ≡ Unchanged (accepted true (row w) 0 0) l
+  unfolding acceptedOutcome answerTo lentAfter
+  find-outcome w p h l =
+      let there : member w (palindromes (ruleOf b) (lettersIn b)) ≡ true = rw rule-is (palindromes-is (ruleIn m) w (lettersIn b) p (in-store h)) in
+      carried-out (ask (find w)) b l (find-accepted b l w (p .non-empty) (letters-piece (in-store h) (good .letters)))
+      ∙ ap (λ (r : Reply). Unchanged r l)
+      (reply-of-found (member w (palindromes (ruleOf b) (lettersIn b))) (rowOf b (spelt w)) ∙ ap₂ (λ (t : Bool) (r : ℕ). accepted t (cond t r 0) 0 0) there (sym (st .rows w p h)))
 
-  fields-reply : (w : Word) → Palindrome plain w → Stands w s
-      → Replies (ask (theRow (row w))) b (accepted false (numberOf row (linkOf plain (spelt w))) (length w) (numberOf row (innerOf (spelt w))))
-  unfolding Promised acceptedOutcome answerTo lentAfter changed twosComplement lengthOf
-  fields-reply w p h l o a =
+  absent-outcome : (w : Word) → (w ≡ [] → ⊥) → allLetters w ≡ true → (Palindrome (ruleIn m) w → Stands w s → ⊥) → (l : Lent) → outcome (ask (find w)) b l ≡ Unchanged (accepted false 0 0 0) l
+  unfolding acceptedOutcome answerTo lentAfter
+  absent-outcome w f g n l =
+      let missing : member w (palindromes (ruleOf b) (lettersIn b)) ≡ false =
+      not-true-false (member w (palindromes (ruleOf b) (lettersIn b))) (λ e. let h = palindromes-true (ruleOf b) w (lettersIn b) e in n (rw rule-is at (h .0)) (out-store (h .1))) in
+      carried-out (ask (find w)) b l (find-accepted b l w f g)
+      ∙ ap (λ (r : Reply). Unchanged r l)
+      (reply-of-found (member w (palindromes (ruleOf b) (lettersIn b))) (rowOf b (spelt w)) ∙ ap (λ (t : Bool). accepted t (cond t (rowOf b (spelt w)) 0) 0 0) missing)
+
+  pub row-outcome : (w : Word) → Palindrome (ruleIn m) w → Stands w s → (l : Lent)
+      → outcome (ask (theRow (row w))) b l ≡ Unchanged (accepted false (numberOf row (linkOf (ruleIn m) (spelt w))) (length w) (numberOf row (innerOf (spelt w)))) l
+  unfolding acceptedOutcome answerTo lentAfter twosComplement lengthOf
+  row-outcome w p h l =
       let held = row-holds w p h in
-      let out : outcome (ask (theRow (row w))) b l ≡ acceptedOutcome (ask (theRow (row w))) b l = carried-out (ask (theRow (row w))) b l (row-accepted b l (row w) (held .0)) in
-      ap (λ (x : Outcome). x .reply) (a .good good ∙ out)
-      ∙ ap (λ (v : Node). accepted false (rowOf b (linkOf plain v)) (twosComplement (lengthOf v)) (rowOf b (innerOf v))) (held .1)
-      ∙ ap₂ (λ (x y : ℕ). accepted false x (length w) y) (sym (number-is (linkOf plain (spelt w)) (link-node w p h))) (sym (number-is (innerOf (spelt w)) (inner-node w p h)))
+      carried-out (ask (theRow (row w))) b l (row-accepted b l (row w) (held .0))
+      ∙ ap (λ (r : Reply). Unchanged r l)
+      (ap (λ (σ : ℕ → ℕ). accepted false (rowOf b (linkOf σ (nodeIn b (row w)))) (twosComplement (lengthOf (nodeIn b (row w)))) (rowOf b (innerOf (nodeIn b (row w))))) rule-is
+      ∙ ap (λ (v : Node). accepted false (rowOf b (linkOf (ruleIn m) v)) (twosComplement (lengthOf v)) (rowOf b (innerOf v))) (held .1)
+      ∙ ap₂ (λ (x y : ℕ). accepted false x (length w) y) (sym (number-is (linkOf (ruleIn m) (spelt w)) (link-node m w p h))) (sym (number-is (innerOf (spelt w)) (inner-node m w p h))))
 
-  no-row-reply : (r : ℕ) → usedIn b r ≡ false → Replies (ask (theRow r)) b (refusedWith 7)
-  unfolding Promised refusedOutcome
-  no-row-reply r u l o a = ap (λ (x : Outcome). x .reply) (a .good good ∙ refused-out (ask (theRow r)) b l 6 (row-free b l r u))
+  -- ---- the answers
 
-  no-spelling-reply : (r : ℕ) → usedIn b r ≡ false → Replies (ask (spell r)) b (refusedWith 7)
-  unfolding Promised refusedOutcome
-  no-spelling-reply r u l o a = ap (λ (x : Outcome). x .reply) (a .good good ∙ refused-out (ask (spell r)) b l 6 (spell-free b l r u))
+  -- a question whose outcome on this store has the reply r
+  replies : (q : Question) (r : Reply) → ((l : Lent) → outcome (ask q) b l .reply ≡ r) → Replies q b r
+  replies q r f l a b′ l′ p = told good p .reply ∙ f l
+
+  no-row-reply : (r : ℕ) → usedIn b r ≡ false → Replies (theRow r) b (refusedWith 7)
+  unfolding refusedOutcome
+  no-row-reply r u = replies (theRow r) (refusedWith 7) (λ l. ap (λ (x : Outcome). x .reply) (refused-out (ask (theRow r)) b l 6 (row-free b l r u)))
+
+  no-spelling-reply : (r : ℕ) → usedIn b r ≡ false → Replies (spell r) b (refusedWith 7)
+  unfolding refusedOutcome
+  no-spelling-reply r u = replies (spell r) (refusedWith 7) (λ l. ap (λ (x : Outcome). x .reply) (refused-out (ask (spell r)) b l 6 (spell-free b l r u)))
 
   pub table : Table m k s row b
   table =
       record {
-        found = found-reply;
+        found = λ w p h. replies (find w) _ (λ l. ap (λ (x : Outcome). x .reply) (find-outcome w p h l));
         in-range = λ w p h. let held = row-holds w p h in (row-high (covers good) (row w) (held .1) (p .non-empty), omega (arith, used-below b (row w) (held .0), st .capacity));
         alone = λ v w p h q g e. same v w (row-holds v p h .1) (row-holds w q g .1) e;
-        fields = fields-reply;
-        absent = absent-reply;
+        fields = λ w p h. replies (theRow (row w)) _ (λ l. ap (λ (x : Outcome). x .reply) (row-outcome w p h l));
+        absent = λ w f g n. replies (find w) _ (λ l. ap (λ (x : Outcome). x .reply) (absent-outcome w f g n l));
         no-row = λ r h n. no-row-reply r (unheld r h n);
         no-spelling = λ r h n. no-spelling-reply r (unheld r h n);
       }
     where
       same : (v w : Word) → nodeIn b (row v) ≡ spelt v → nodeIn b (row w) ≡ spelt w → row v ≡ row w → v ≡ w
       same v w p q e = cc
+
+  -- what the store shows
+  pub shown : Shown m k s b
+  shown =
+      record {
+        good = good;
+        capacity = st .capacity;
+        reading = st .reading;
+        letters = st .letters;
+        table = subst₂ (λ (σ : ℕ → ℕ) (t : Word). IsEertree σ t (tableIn b) (nodeIn b)) rule-is (st .letters) (is-eertree (good .table));
+      }

@@ -1,43 +1,47 @@
--- The theorem about every whole list of calls, `every-list`: whatever the store held before an accepted opening, and whatever calls follow, all claims
--- hold after the list. `goes-on` makes a list of any calls longer by any call, so that the theorem's hypothesis can be met.
+-- The theorem about every whole list of calls, `every-list`: from what the exported contracts state of each call to what document 01 claims of the list. A question is one
+-- case here, whichever it is. Rests on `Addition`, `Removal`, `Undone` and `Table`, and on `Told` of the outcomes, which reads an answer back.
 use Prim.Native.Nat.{ℕ, zero, suc, _≤_}
-use mathlib.Core.Path.{_≡_, refl, sym, ap, _∙_, subst}
-use mathlib.Core.List.{List, [], _∷_}
 use native.Mathlib.Omega.{arith}
+use mathlib.Core.Path.{_≡_, refl, sym, ap, ap₂, _∙_, subst, subst₂}
+use mathlib.Core.Bool.{true, false}
+use mathlib.Core.List.{List, [], _∷_}
 use lib.ListN.{length, set, replicate}
 use lib.Seq.{sets}
-use Rattle.palindromes.specs.Word.{Word, member}
-use Rattle.palindromes.specs.Palindrome.{plain}
+use Rattle.palindromes.specs.Word.{Word}
+use Rattle.palindromes.specs.Palindrome.{Palindrome}
 use Rattle.palindromes.specs.Place.{Stands}
-use Rattle.palindromes.specs.Record.{palindromes}
-use Rattle.palindromes.specs.End.{End, letterAt}
+use Rattle.palindromes.specs.End.{End, removed, letterAt}
 use Rattle.palindromes.specs.Node.{Node, imaginary, spelt, linkOf, innerOf}
-use Rattle.palindromes.specs.Refusal.{Call, opening, add, remove, ask, refusal, storeSize}
+use Rattle.palindromes.specs.Refusal.{Question, theRow, find, Call, opening, add, remove, ask, storeSize, refusal}
 use Rattle.palindromes.proofs.Words.{stands-of-empty}
 use Rattle.eertree.specs.Covers.{NodeOf}
-use Rattle.store.specs.Layout.{lettersIn}
-use Rattle.store.specs.Good.{ruleOf, Good}
+use Rattle.store.specs.Layout.{readingIn, lettersIn}
+use Rattle.store.specs.Good.{ruleIn, ruleOf, Good}
+use Rattle.transitions.specs.Opening.{usedBytes, openingWrites, opened}
 use Rattle.transitions.specs.Rows.{rowOf}
 use Rattle.transitions.specs.Addition.{bringsIn, rowAfter as rowAfterAddition}
 use Rattle.transitions.specs.Removal.{longestBefore, takesOut}
-use Rattle.transitions.specs.Opening.{usedBytes, openingWrites, opened}
 use Rattle.transitions.specs.Bytes.{Bytes}
 use Rattle.transitions.proofs.AddedRuns.{bytes-set, bytes-writes}
 use Rattle.transitions.proofs.Opening.{opened-capacity, opened-letters, opened-good}
-use Rattle.outcome.specs.Reply.{Reply, accepted, refusedWith}
-use Rattle.outcome.specs.Outcome.{Lent, Outcome, viewIn, unlessRefused, outcome, acceptedOutcome, refusedOutcome, changed, Answers}
-use Rattle.traces.specs.Run.{Turn, Promised, Run, begun, turn, lettersStep, lettersAfter, rowStep, rowAfter}
-use Rattle.traces.specs.Claims.{numberOf, Added, Removed, Claims}
-use Rattle.outcome.proofs.Replies.{reply-of-added, reply-of-removed, reply-of-found}
-use Rattle.outcome.proofs.Refusals.{never-three, opening-room}
+use Rattle.outcome.specs.Reply.{Reply, packed, accepted, refusedWith, answered, refusalIn, unpacked}
+use Rattle.outcome.specs.Outcome.{Lent, Outcome, viewIn, changed, answerTo, acceptedOutcome, refusedOutcome, unlessRefused, outcome}
+use Rattle.outcome.specs.Promise.{nothing, Left, Promise, OpeningPromise}
+use Rattle.outcome.proofs.Refusals.{number-other, opening-room}
+use Rattle.outcome.proofs.Replies.{reply-of-added, reply-of-removed}
+use Rattle.outcome.proofs.Told.{Told, told, opening-told}
+use Rattle.traces.specs.Run.{Step, Stated, Keeps, storeAfter, Run, begun, called, lettersStep, lettersAfter, rowStep, rowAfter}
+use Rattle.traces.specs.Claims.{SameAnswer, numberOf, Added, Removed, Kept, Called, EachCall, Undone, Claims}
 use Rattle.traces.proofs.State.{State}
-use Rattle.traces.proofs.Table.{table, link-node, inner-node}
-use Rattle.traces.proofs.Step.{add-state, add-claim, add-keeps, remove-state, remove-claim, undone-claim}
+use Rattle.traces.proofs.Table.{table, shown, link-node, inner-node, find-outcome, row-outcome}
+use Rattle.traces.proofs.Addition.{add-state, add-claim, add-keeps}
+use Rattle.traces.proofs.Removal.{remove-state, remove-claim}
+use Rattle.traces.proofs.Undone.{good-now, undone-claim}
 
--- ---- replies and stores, whatever the refusal number n
+-- ---- outcomes, whatever the refusal number n
 
--- the reply's number is the refusal's, of a call that takes a store
-number-of : (n : ℕ) (call : Call) (b : Word) (l : Lent) → unlessRefused n call b l .reply .number ≡ n
+-- the reply's number is n
+pub number-of : (n : ℕ) (call : Call) (b : Word) (l : Lent) → unlessRefused n call b l .reply .number ≡ n
 unfolding unlessRefused refusedOutcome refusedWith acceptedOutcome changed accepted
 number-of (suc n) call b l = refl
 number-of zero (opening k) b l = refl
@@ -45,106 +49,201 @@ number-of zero (add e c) b l = ap (λ (r : Reply). r .number) (reply-of-added (b
 number-of zero (remove e) b l = ap (λ (r : Reply). r .number) (reply-of-removed (takesOut e b) (letterAt e (lettersIn b)) (rowOf b (spelt (longestBefore e b))))
 number-of zero (ask q) b l = refl
 
--- a call that changes nothing, whether it is carried out or refused
-abbrev Question : Call → Type 0
-Question (opening k) = ⊥
-Question (add e c) = ⊥
-Question (remove e) = ⊥
-Question (ask q) = Unit {0}
+-- a refused call
+pub refused-is : (n : ℕ) (call : Call) (b : Word) (l : Lent) → (n ≡ 0 → ⊥) → unlessRefused n call b l ≡ refusedOutcome n b l
+unfolding unlessRefused
+refused-is zero call b l h = absurd (h refl)
+refused-is (suc n) call b l h = refl
 
-store-of : (n : ℕ) (call : Call) (b : Word) (l : Lent) → Question call → unlessRefused n call b l .store ≡ b
-unfolding unlessRefused refusedOutcome acceptedOutcome changed
-store-of (suc n) call b l q = refl
-store-of zero (opening k) b l q = absurd q
-store-of zero (add e c) b l q = absurd q
-store-of zero (remove e) b l q = absurd q
-store-of zero (ask q) b l h = refl
+-- a question leaves the store
+question-store : (n : ℕ) (q : Question) (b : Word) (l : Lent) → unlessRefused n (ask q) b l .store ≡ b
+unfolding unlessRefused refusedOutcome acceptedOutcome
+question-store zero q b l = refl
+question-store (suc n) q b l = refl
 
--- a refused opening leaves the store
-opening-store : (n k : ℕ) (b : Word) (l : Lent) → (unlessRefused n (opening k) b l .reply .number ≡ 0 → ⊥) → unlessRefused n (opening k) b l .store ≡ b
-unfolding unlessRefused refusedOutcome
-opening-store zero k b l h = absurd (h (number-of zero (opening k) b l))
-opening-store (suc n) k b l h = refl
+-- ---- the same question on two good stores
+
+-- a question whose outcomes have the same reply and leave the same buffers
+same-answer : (q : Question) {b c : Word} → Good b → Good c → ((l : Lent) → outcome (ask q) b l .reply ≡ outcome (ask q) c l .reply) → ((l : Lent) → outcome (ask q) b l .lent ≡ outcome (ask q) c l .lent)
+    → SameAnswer q b c
+same-answer q g h f e l a a′ b′ c′ l′ l″ p p′ =
+    let t = told g p in
+    let u = told h p′ in
+    (t .number ∙ ap packed (f l) ∙ sym (u .number), t .lent ∙ e l ∙ sym (u .lent))
 
 -- ---- one more call
 
-module _ (k : ℕ) (s : Word) (row : Word → ℕ) (b : Word) (st : State k s row b) where
-  asked : (call : Call) (l : Lent) (o : Outcome) → Question call → Answers call b l o → State k s row (o .store)
+module _ (m k : ℕ) (s : Word) (row : Word → ℕ) (b : Word) (st : State m k s row b) where
+  -- what a call that keeps its contract comes to
+  came : (x : Step) → Keeps b x → Told (outcome (x .call) b (x .lent)) (x .answer) (x .store) (x .after)
+  unfolding Stated
+  came x p = go (x .call) refl p
+    where
+      go : (call : Call) → x .call ≡ call → Stated call b (x .lent) (x .answer) (x .store) (x .after) → Told (outcome call b (x .lent)) (x .answer) (x .store) (x .after)
+      go (opening n) e p = opening-told (p .0) (p .1)
+      go (add e c) f p = told (st .good) p
+      go (remove e) f p = told (st .good) p
+      go (ask q) f p = told (st .good) p
+
+  abbrev numberOfCall : Step → ℕ
+  numberOfCall x = refusal (ruleOf b) (viewIn b (x .lent)) (x .call)
+
+  answered-number : (x : Step) → Keeps b x → refusalIn (x .answer) ≡ numberOfCall x
+  unfolding unpacked outcome
+  answered-number x p = ap (λ (r : Reply). r .number) (came x p .reply) ∙ number-of (numberOfCall x) (x .call) b (x .lent)
+
+  -- an opening of a list is refused
+  opening-refused : (x : Step) (n : ℕ) → x .call ≡ opening n → Keeps b x → refusalIn (x .answer) ≡ 0 → ⊥
+  unfolding Stated
+  opening-refused x n e p = subst (λ (call : Call). Stated call b (x .lent) (x .answer) (x .store) (x .after)) e p .2
+
+  refused-outcome : (x : Step) → Keeps b x → (refusalIn (x .answer) ≡ 0 → ⊥) → outcome (x .call) b (x .lent) ≡ refusedOutcome (refusalIn (x .answer)) b (x .lent)
   unfolding outcome
-  asked call l o q a = subst (State k s row) (sym (ap (λ (x : Outcome). x .store) (a .good (st .good)) ∙ store-of (refusal (ruleOf b) (viewIn b l) call) call b l q)) st
+  refused-outcome x p h =
+      refused-is (numberOfCall x) (x .call) b (x .lent) (λ z. h (answered-number x p ∙ z)) ∙ ap (λ (n : ℕ). refusedOutcome n b (x .lent)) (sym (answered-number x p))
 
-  next-state : (call : Call) (l : Lent) (o : Outcome) → Promised call b l o → State k (lettersStep k s call) (rowStep s call (o .reply) row) (o .store)
-  unfolding Promised lettersStep rowStep outcome
-  next-state (opening m) l o p =
-      subst (State k s row)
-      (sym (ap (λ (x : Outcome). x .store) (p .0) ∙ opening-store (refusal (ruleOf b) (viewIn b l) (opening m)) m b l (λ z. p .1 (ap (λ (x : Outcome). x .reply .number) (p .0) ∙ z))))
-      st
-  next-state (add e c) l o p = add-state k s row b st e c l o p
-  next-state (remove e) l o p = remove-state k s row b st e l o p
-  next-state (ask q) l o p = asked (ask q) l o tt p
+  refused-store : (x : Step) → Keeps b x → (refusalIn (x .answer) ≡ 0 → ⊥) → x .store ≡ b
+  unfolding refusedOutcome
+  refused-store x p h = came x p .store ∙ ap (λ (o : Outcome). o .store) (refused-outcome x p h)
 
-  -- what a call in a list comes to, on a good store
-  came-to : (call : Call) (l : Lent) (o : Outcome) → Promised call b l o → o ≡ outcome call b l
-  unfolding Promised
-  came-to (opening m) l o p = p .0
-  came-to (add e c) l o p = p .good (st .good)
-  came-to (remove e) l o p = p .good (st .good)
-  came-to (ask q) l o p = p .good (st .good)
-
-  no-three : (call : Call) (l : Lent) (o : Outcome) → Promised call b l o → o .reply .number ≡ 3 → ⊥
+  asked-store : (x : Step) (q : Question) → x .call ≡ ask q → Keeps b x → x .store ≡ b
   unfolding outcome
-  no-three call l o p z =
-      let h = came-to call l o p in
-      never-three b l call (sym (number-of (refusal (ruleOf b) (viewIn b l) call) call b l) ∙ ap (λ (x : Outcome). x .reply .number) (sym h) ∙ z)
+  asked-store x q e p =
+      came x p .store
+      ∙ ap (λ (call : Call). outcome call b (x .lent) .store) e
+      ∙ question-store (refusal (ruleOf b) (viewIn b (x .lent)) (ask q)) q b (x .lent)
 
-  keeps : (call : Call) (l : Lent) (o : Outcome) → Promised call b l o → (w : Word) → Stands w s → rowStep s call (o .reply) row w ≡ row w
-  unfolding Promised rowStep
-  keeps (opening m) l o p w q = refl
-  keeps (add e c) l o p w q = add-keeps k s row b st e c l o p w q
-  keeps (remove e) l o p w q = refl
-  keeps (ask q) l o p w h = refl
+  -- the state after the call
+  next-state : (x : Step) → Keeps b x → State m k (lettersStep k s (x .call)) (rowStep m s (x .call) (unpacked (x .answer)) row) (x .store)
+  unfolding lettersStep rowStep
+  next-state x p = go (x .call) refl
+    where
+      told-of : (call : Call) → x .call ≡ call → Told (outcome call b (x .lent)) (x .answer) (x .store) (x .after)
+      told-of call e = subst (λ (y : Call). Told (outcome y b (x .lent)) (x .answer) (x .store) (x .after)) e (came x p)
 
-  -- a node of the letters keeps its row number too
-  node-keeps : (call : Call) (l : Lent) (o : Outcome) → Promised call b l o → (v : Node) → NodeOf plain s v → numberOf (rowStep s call (o .reply) row) v ≡ numberOf row v
+      go : (call : Call) → x .call ≡ call → State m k (lettersStep k s call) (rowStep m s call (unpacked (x .answer)) row) (x .store)
+      go (opening n) e = subst (State m k s row) (sym (refused-store x p (opening-refused x n e p))) st
+      go (add e c) f =
+          let t = told-of (add e c) f in
+          subst₂ (λ (r : Reply) (y : Word). State m k (lettersStep k s (add e c)) (rowStep m s (add e c) r row) y) (sym (t .reply)) (sym (t .store)) (add-state m k s row b st e c (x .lent))
+      go (remove e) f = let t = told-of (remove e) f in subst (State m k (removed e s) row) (sym (t .store)) (remove-state m k s row b st e (x .lent))
+      go (ask q) e = subst (State m k s row) (sym (asked-store x q e p)) st
+
+  -- ---- what is claimed of the call
+
+  -- a repeat that stands keeps its row
+  keeps : (x : Step) → Keeps b x → (w : Word) → Stands w s → rowStep m s (x .call) (unpacked (x .answer)) row w ≡ row w
+  unfolding rowStep
+  keeps x p w q = go (x .call) refl
+    where
+      go : (call : Call) → x .call ≡ call → rowStep m s call (unpacked (x .answer)) row w ≡ row w
+      go (opening n) e = refl
+      go (add e c) f =
+          ap (λ (r : Reply). rowStep m s (add e c) r row w) (came x p .reply ∙ ap (λ (call : Call). outcome call b (x .lent) .reply) f) ∙ add-keeps m k s row b st e c (x .lent) w q
+      go (remove e) f = refl
+      go (ask q) f = refl
+
+  -- and so does every node of the letters
+  node-keeps : (x : Step) → Keeps b x → (v : Node) → NodeOf (ruleIn m) s v → numberOf (rowStep m s (x .call) (unpacked (x .answer)) row) v ≡ numberOf row v
   unfolding numberOf
-  node-keeps call l o p imaginary n = refl
-  node-keeps call l o p (spelt []) n = refl
-  node-keeps call l o p (spelt (x ∷ w)) n = keeps call l o p (x ∷ w) (n .1)
+  node-keeps x p imaginary n = refl
+  node-keeps x p (spelt []) n = refl
+  node-keeps x p (spelt (y ∷ w)) n = keeps x p (y ∷ w) (n .1)
 
-  -- the first point for an addition and a removal, whatever the call is written as
-  addition-of : (e : End) (c : ℕ) (call : Call) (l : Lent) (o : Outcome) → call ≡ add e c → Promised call b l o → Added k s (rowStep s call (o .reply) row) e c o
-  unfolding Promised
-  addition-of e c call l o f p =
-      subst (λ (x : Call). Added k s (rowStep s x (o .reply) row) e c o) (sym f) (add-claim k s row b st e c l o (subst (λ (x : Call). Promised x b l o) f p))
+  kept-claim : (x : Step) → Keeps b x → (w : Word) → Palindrome (ruleIn m) w → Stands w s → Stands w (lettersStep k s (x .call)) → Kept w row (rowStep m s (x .call) (unpacked (x .answer)) row) b (x .store)
+  kept-claim x p w q h h′ =
+      let row′ : Word → ℕ = rowStep m s (x .call) (unpacked (x .answer)) row in
+      let next = next-state x p in
+      let same : row′ w ≡ row w = keeps x p w h in
+      let found = find-outcome m k s row b st w q h in
+      let found′ = find-outcome m k (lettersStep k s (x .call)) row′ (x .store) next w q h′ in
+      let fields = row-outcome m k s row b st w q h in
+      let fields′ = row-outcome m k (lettersStep k s (x .call)) row′ (x .store) next w q h′ in
+      let link = node-keeps x p (linkOf (ruleIn m) (spelt w)) (link-node m w q h) in
+      let inner = node-keeps x p (innerOf (spelt w)) (inner-node m w q h) in
+      record {
+        same-row = same;
+        same-found = same-answer (find w) (st .good) (next .good)
+            (λ l. ap (λ (o : Outcome). o .reply) (found l) ∙ ap (λ (r : ℕ). accepted true r 0 0) (sym same) ∙ ap (λ (o : Outcome). o .reply) (sym (found′ l)))
+            (λ l. ap (λ (o : Outcome). o .lent) (found l) ∙ ap (λ (o : Outcome). o .lent) (sym (found′ l)));
+        same-fields = same-answer (theRow (row w)) (st .good) (next .good)
+            (λ l. ap (λ (o : Outcome). o .reply) (fields l)
+            ∙ ap₂ (λ (i j : ℕ). accepted false i (length w) j) (sym link) (sym inner)
+            ∙ ap (λ (o : Outcome). o .reply) (sym (fields′ l))
+            ∙ ap (λ (r : ℕ). outcome (ask (theRow r)) (x .store) l .reply) same)
+            (λ l. ap (λ (o : Outcome). o .lent) (fields l) ∙ ap (λ (o : Outcome). o .lent) (sym (fields′ l)) ∙ ap (λ (r : ℕ). outcome (ask (theRow r)) (x .store) l .lent) same);
+      }
 
-  removal-of : (e : End) (call : Call) (l : Lent) (o : Outcome) → call ≡ remove e → Promised call b l o → Removed s row e o
-  unfolding Promised
-  removal-of e call l o f p = remove-claim k s row b st e l o (subst (λ (x : Call). Promised x b l o) f p)
+  addition-claim : (x : Step) → Keeps b x → (e : End) (c : ℕ) → x .call ≡ add e c → Added m k s (rowStep m s (x .call) (unpacked (x .answer)) row) e c (unpacked (x .answer))
+  addition-claim x p e c f =
+      let t : unpacked (x .answer) ≡ outcome (add e c) b (x .lent) .reply = came x p .reply ∙ ap (λ (call : Call). outcome call b (x .lent) .reply) f in
+      subst (λ (call : Call). Added m k s (rowStep m s call (unpacked (x .answer)) row) e c (unpacked (x .answer))) (sym f)
+      (subst (λ (r : Reply). Added m k s (rowStep m s (add e c) r row) e c r) (sym t) (add-claim m k s row b st e c (x .lent)))
+
+  removal-claim : (x : Step) → Keeps b x → (e : End) → x .call ≡ remove e → Removed m s row e (unpacked (x .answer))
+  removal-claim x p e f =
+      let t : unpacked (x .answer) ≡ outcome (remove e) b (x .lent) .reply = came x p .reply ∙ ap (λ (call : Call). outcome call b (x .lent) .reply) f in
+      subst (λ (r : Reply). Removed m s row e r) (sym t) (remove-claim m k s row b st e (x .lent))
+
+  refused-claim : (x : Step) → Keeps b x → (refusalIn (x .answer) ≡ 0 → ⊥) → (unpacked (x .answer) ≡ refusedWith (refusalIn (x .answer))) × (x .store ≡ b) × (x .after ≡ x .lent)
+  unfolding refusedOutcome
+  refused-claim x p h =
+      let e = refused-outcome x p h in
+      (came x p .reply ∙ ap (λ (o : Outcome). o .reply) e, refused-store x p h, came x p .lent ∙ ap (λ (o : Outcome). o .lent) e)
+
+  call-claim : (x : Step) → Keeps b x → Called m k s row (rowStep m s (x .call) (unpacked (x .answer)) row) b x
+  call-claim x p =
+      record {
+        number-is = answered-number x p ∙ ap (λ (n : ℕ). refusal (ruleIn n) (viewIn b (x .lent)) (x .call)) (st .reading);
+        never-three = λ z. number-other b (x .lent) (x .call) .1 (sym (answered-number x p) ∙ z);
+        refused-leaves = refused-claim x p;
+        question-leaves = λ q e. asked-store x q e p;
+        addition = addition-claim x p;
+        removal = removal-claim x p;
+        kept = kept-claim x p;
+      }
+
+  -- ---- an addition undone at once
+
+  undone-steps : (e : End) (c : ℕ) (x y : Step) → x .call ≡ add e c → Keeps b x → refusalIn (x .answer) ≡ 0 → y .call ≡ remove e → Keeps (x .store) y → Undone b c x y
+  unfolding Stated unpacked
+  undone-steps e c x y f p z g q =
+      let t : Told (outcome (add e c) b (x .lent)) (x .answer) (x .store) (x .after) = subst (λ (call : Call). Told (outcome call b (x .lent)) (x .answer) (x .store) (x .after)) f (came x p) in
+      let n : outcome (add e c) b (x .lent) .reply .number ≡ 0 = ap (λ (r : Reply). r .number) (sym (t .reply)) ∙ z in
+      let good = good-now m k s row b st e c (x .lent) (y .lent) n in
+      let back = undone-claim m k s row b st e c (x .lent) (y .lent) n in
+      let u = told good (subst₂ (λ (call : Call) (d : Word). Stated call d (y .lent) (y .answer) (y .store) (y .after)) g (t .store) q) in
+      let store : y .store ≡ b = u .store ∙ back .same-bytes in
+      record {
+        accepted-too = ap (λ (r : Reply). r .number) (u .reply) ∙ back .accepted-too;
+        same-letter = ap (λ (r : Reply). r .first) (u .reply) ∙ back .same-letter;
+        same-flag = ap (λ (r : Reply). r .flag) (u .reply) ∙ back .same-flag ∙ ap (λ (r : Reply). r .flag) (sym (t .reply));
+        same-row = ap (λ (r : Reply). r .row) (u .reply) ∙ back .same-row ∙ ap (λ (r : Reply). r .row) (sym (t .reply));
+        same-store = store;
+        same-answers = λ q. subst (SameAnswer q b) (sym store) (same-answer q (st .good) (st .good) (λ l. refl) (λ l. refl));
+      }
 
 -- ---- the list
 
-module _ (k : ℕ) (b₀ : Word) (start : State k [] (λ w. zero) (opened k b₀)) where
-  state : {xs : List Turn} {b : Word} → Run (opened k b₀) xs b → State k (lettersAfter k xs) (rowAfter k xs) b
-  unfolding lettersAfter rowAfter
+module _ (m k : ℕ) (b : Word) (start : State m k [] (λ w. zero) b) where
+  state : {xs : List Step} → Run b xs → State m k (lettersAfter k xs) (λ w. rowAfter m k xs w) (storeAfter b xs)
+  unfolding lettersAfter rowAfter storeAfter
   state begun = start
-  state (turn {xs = xs} {b′ = b′} r x p) = next-state k (lettersAfter k xs) (rowAfter k xs) b′ (state r) (x .call) (x .lent) (x .came) p
+  state (called {xs = xs} r x p) = next-state m k (lettersAfter k xs) (λ w. rowAfter m k xs w) (storeAfter b xs) (state r) x p
 
-  claims : {xs : List Turn} {b : Word} → Run (opened k b₀) xs b → Claims k xs b
-  unfolding rowAfter Promised
-  claims {xs} {b} r =
+  each-call : {xs : List Step} → Run b xs → EachCall m k b xs
+  unfolding EachCall rowAfter
+  each-call begun = tt
+  each-call (called {xs = xs} r x p) = (call-claim m k (lettersAfter k xs) (λ w. rowAfter m k xs w) (storeAfter b xs) (state r) x p, each-call r)
+
+  claims : {xs : List Step} → Run b xs → Claims m k b xs
+  claims {xs} r =
       let st = state r in
       record {
-        table = table k (lettersAfter k xs) (rowAfter k xs) b st;
-        further = λ x p.
-            record {
-              never-three = no-three k (lettersAfter k xs) (rowAfter k xs) b st (x .call) (x .lent) (x .came) p;
-              kept = λ w q h h′. keeps k (lettersAfter k xs) (rowAfter k xs) b st (x .call) (x .lent) (x .came) p w h;
-              kept-link = λ w q h h′. node-keeps k (lettersAfter k xs) (rowAfter k xs) b st (x .call) (x .lent) (x .came) p (linkOf plain (spelt w)) (link-node w q h);
-              kept-inner = λ w q h h′. node-keeps k (lettersAfter k xs) (rowAfter k xs) b st (x .call) (x .lent) (x .came) p (innerOf (spelt w)) (inner-node w q h);
-              addition = λ e c f. addition-of k (lettersAfter k xs) (rowAfter k xs) b st e c (x .call) (x .lent) (x .came) f p;
-              removal = λ e f. removal-of k (lettersAfter k xs) (rowAfter k xs) b st e (x .call) (x .lent) (x .came) f p;
-            };
-        undone = λ e c l l′ o o′ a z a′. undone-claim k (lettersAfter k xs) (rowAfter k xs) b st e c l l′ o o′ a z a′;
+        shown = shown m k (lettersAfter k xs) (λ w. rowAfter m k xs w) (storeAfter b xs) st;
+        table = table m k (lettersAfter k xs) (λ w. rowAfter m k xs w) (storeAfter b xs) st;
+        each = each-call r;
+        undone = undone-steps m k (lettersAfter k xs) (λ w. rowAfter m k xs w) (storeAfter b xs) st;
       }
 
 -- ---- from the opening
@@ -155,48 +254,37 @@ zeros-bytes zero at b h = h
 zeros-bytes (suc n) at b h = zeros-bytes n (suc at) (set b at 0) (bytes-set b at 0 h (omega arith))
 
 -- the state right after an accepted opening
-opened-state : (k : ℕ) (b₀ : Word) → Bytes b₀ → (1 ≤ k) × (k ≤ 1024) × (storeSize k ≤ length b₀) → State k [] (λ w. zero) (opened k b₀)
+opened-state : (k : ℕ) (b₀ : Word) → Bytes b₀ → (1 ≤ k) × (k ≤ 1024) × (storeSize k ≤ length b₀) → State 0 k [] (λ w. zero) (opened k b₀)
 unfolding opened
 opened-state k b₀ h r =
+    let good = opened-good k b₀ (r .1) (r .2) (r .0) in
     record {
-      good = opened-good k b₀ (r .1) (r .2) (r .0);
+      good = good;
       capacity = opened-capacity k b₀ (r .1) (r .2);
+      reading = good .reading;
       letters = opened-letters k b₀ (r .1) (r .2);
       rows = λ w p q. absurd (p .non-empty (stands-of-empty q));
       bytes = bytes-writes (openingWrites k) (sets b₀ 0 (replicate (usedBytes k) 0)) (zeros-bytes (usedBytes k) 0 b₀ h);
     }
 
--- THE THEOREM. For every capacity and every byte string that an opening accepts, and every list of calls that follows, whatever their arguments and
--- buffers: all that document 01 claims of lists of calls holds after it
-pub every-list : (k : ℕ) (b₀ : Word) (l : Lent) (o : Outcome) → Bytes b₀ → o ≡ outcome (opening k) b₀ l → o .reply .number ≡ 0
-    → {xs : List Turn} {b : Word} → Run (o .store) xs b → Claims k xs b
-unfolding outcome acceptedOutcome changed unlessRefused
-every-list k b₀ l o h e z {xs} {b} run =
-    let n : refusal (ruleOf b₀) (viewIn b₀ l) (opening k) ≡ 0 = sym (number-of (refusal (ruleOf b₀) (viewIn b₀ l) (opening k)) (opening k) b₀ l) ∙ ap (λ (x : Outcome). x .reply .number) (sym e) ∙ z in
-    let stored : o .store ≡ opened k b₀ = ap (λ (x : Outcome). x .store) e ∙ ap (λ (m : ℕ). unlessRefused m (opening k) b₀ l .store) n in
-    claims k b₀ (opened-state k b₀ h (opening-room k b₀ l n)) (subst (λ (x : Word). Run x xs b) stored run)
+-- an opening that answers 0 was accepted, and leaves what `opened` says
+opened-store : (k : ℕ) (b₀ : Word) (a : ℕ) (b : Word) → OpeningPromise k b₀ a b → refusalIn a ≡ 0 → (refusal (ruleOf b₀) (viewIn b₀ nothing) (opening k) ≡ 0) × (b ≡ opened k b₀)
+unfolding unpacked outcome unlessRefused acceptedOutcome changed
+opened-store k b₀ a b p z =
+    let t = opening-told {l = nothing} p refl in
+    let n : refusal (ruleOf b₀) (viewIn b₀ nothing) (opening k) ≡ 0 =
+    sym (number-of (refusal (ruleOf b₀) (viewIn b₀ nothing) (opening k)) (opening k) b₀ nothing) ∙ ap (λ (r : Reply). r .number) (sym (t .reply)) ∙ z in
+    (n, t .store ∙ ap (λ (i : ℕ). unlessRefused i (opening k) b₀ nothing .store) n)
 
--- ---- the hypothesis can be met
+module _ (k : ℕ) (b₀ : Word) (h : Bytes b₀) (a : ℕ) (b : Word) (p : OpeningPromise k b₀ a b) (z : refusalIn a ≡ 0) where
+  first-state : State 0 k [] (λ w. zero) b
+  first-state = let e = opened-store k b₀ a b p z in subst (State 0 k [] (λ w. zero)) (sym (e .1)) (opened-state k b₀ h (opening-room k b₀ nothing (e .0)))
 
--- what a call on a good store may come to is there: its outcome. An opening must be one that is refused
-abbrev Listed : Call → Word → Lent → Type 0
-Listed (opening k) b l = outcome (opening k) b l .reply .number ≡ 0 → ⊥
-Listed (add e c) b l = Unit {0}
-Listed (remove e) b l = Unit {0}
-Listed (ask q) b l = Unit {0}
+  -- THE THEOREM. For every capacity and every lent store on which an opening answers 0, and every list of calls that follows, whatever their arguments and buffers, if each
+  -- keeps the contract of its exported function: all that document 01 claims of lists of calls holds
+  pub every-list : {xs : List Step} → Run b xs → Claims 0 k b xs
+  every-list = claims 0 k b first-state
 
-answered : (call : Call) (b : Word) (l : Lent) → Good b → Answers call b l (outcome call b l)
-answered call b l g = record { good = λ x. refl; damaged = λ n. absurd (n g) }
-
-pub promise-kept : (call : Call) (b : Word) (l : Lent) → Good b → Listed call b l → Promised call b l (outcome call b l)
-unfolding Promised
-promise-kept (opening k) b l g h = (refl, h)
-promise-kept (add e c) b l g h = answered (add e c) b l g
-promise-kept (remove e) b l g h = answered (remove e) b l g
-promise-kept (ask q) b l g h = answered (ask q) b l g
-
--- any list from an opening goes on with any call
-pub goes-on : (k : ℕ) (b₀ : Word) → Bytes b₀ → (1 ≤ k) × (k ≤ 1024) × (storeSize k ≤ length b₀) → {xs : List Turn} {b : Word} → Run (opened k b₀) xs b → (call : Call) (l : Lent) → Listed call b l
-    → Run (opened k b₀) (record { call = call; lent = l; came = outcome call b l } ∷ xs) (outcome call b l .store)
-goes-on k b₀ h r {xs} {b} run call l p =
-    turn run (record { call = call; lent = l; came = outcome call b l }) (promise-kept call b l (state k b₀ (opened-state k b₀ h r) run .good) p)
+  -- 01 "a store made by opening and accepted calls is always good"
+  pub always-good : {xs : List Step} → Run b xs → Good (storeAfter b xs)
+  always-good r = every-list r .shown .good
