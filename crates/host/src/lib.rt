@@ -52,7 +52,7 @@ pub extern "C" fn mirror_remove_right(store: &mut [u8]) -> u64
 pub extern "C" fn mirror_length(store: &[u8]) -> u64
     ensures { λ r. ⌜ Promise (ask theLength) (now (store .entry)) nothing r (now (store .entry)) nothing ⌝ }
 {
-    number_calls::length(store)
+    record_calls::length(store)
 }
 
 // How many distinct repeats stand.
@@ -60,7 +60,7 @@ pub extern "C" fn mirror_length(store: &[u8]) -> u64
 pub extern "C" fn mirror_count(store: &[u8]) -> u64
     ensures { λ r. ⌜ Promise (ask theCount) (now (store .entry)) nothing r (now (store .entry)) nothing ⌝ }
 {
-    number_calls::count(store)
+    record_calls::count(store)
 }
 
 // The longest repeat's length and leftmost place.
@@ -68,7 +68,7 @@ pub extern "C" fn mirror_count(store: &[u8]) -> u64
 pub extern "C" fn mirror_longest(store: &[u8]) -> u64
     ensures { λ r. ⌜ Promise (ask theLongest) (now (store .entry)) nothing r (now (store .entry)) nothing ⌝ }
 {
-    number_calls::longest_repeat(store)
+    longest_calls::longest_repeat(store)
 }
 
 // The longest repeat at the left end: its row, and whether it stands once only.
@@ -76,7 +76,7 @@ pub extern "C" fn mirror_longest(store: &[u8]) -> u64
 pub extern "C" fn mirror_longest_left(store: &[u8]) -> u64
     ensures { λ r. ⌜ Promise (ask (theLongestAt atLeft)) (now (store .entry)) nothing r (now (store .entry)) nothing ⌝ }
 {
-    number_calls::longest_at(store, Side::Left)
+    longest_calls::longest_at(store, Side::Left)
 }
 
 // The longest repeat at the right end: its row, and whether it stands once only.
@@ -84,7 +84,7 @@ pub extern "C" fn mirror_longest_left(store: &[u8]) -> u64
 pub extern "C" fn mirror_longest_right(store: &[u8]) -> u64
     ensures { λ r. ⌜ Promise (ask (theLongestAt atRight)) (now (store .entry)) nothing r (now (store .entry)) nothing ⌝ }
 {
-    number_calls::longest_at(store, Side::Right)
+    longest_calls::longest_at(store, Side::Right)
 }
 
 // The letter at a place.
@@ -92,7 +92,7 @@ pub extern "C" fn mirror_longest_right(store: &[u8]) -> u64
 pub extern "C" fn mirror_letter(store: &[u8], place: u64) -> u64
     ensures { λ r. ⌜ Promise (ask (theLetter place)) (now (store .entry)) nothing r (now (store .entry)) nothing ⌝ }
 {
-    number_calls::letter(store, place)
+    record_calls::letter(store, place)
 }
 
 // A row's length, link and inner row.
@@ -100,7 +100,7 @@ pub extern "C" fn mirror_letter(store: &[u8], place: u64) -> u64
 pub extern "C" fn mirror_row(store: &[u8], row: u64) -> u64
     ensures { λ r. ⌜ Promise (ask (theRow row)) (now (store .entry)) nothing r (now (store .entry)) nothing ⌝ }
 {
-    number_calls::row(store, row)
+    row_call::row(store, row)
 }
 
 // Writes a row's repeat.
@@ -108,7 +108,7 @@ pub extern "C" fn mirror_row(store: &[u8], row: u64) -> u64
 pub extern "C" fn mirror_spell(store: &[u8], row: u64, out: &mut [u8]) -> u64
     ensures { λ r. ⌜ Promise (ask (spell row)) (now (store .entry)) (lending [] (now (out .entry))) r (now (store .entry)) (lending [] (now (out .exit))) ⌝ }
 {
-    text_calls::spell_row(store, row, out)
+    spell_call::spell_row(store, row, out)
 }
 
 // Whether a piece is a repeat of the record, and its row.
@@ -116,7 +116,7 @@ pub extern "C" fn mirror_spell(store: &[u8], row: u64, out: &mut [u8]) -> u64
 pub extern "C" fn mirror_find(store: &[u8], piece: &[u8]) -> u64
     ensures { λ r. ⌜ Promise (ask (find (now (piece .entry)))) (now (store .entry)) nothing r (now (store .entry)) nothing ⌝ }
 {
-    text_calls::find_piece(store, piece)
+    find_call::find_piece(store, piece)
 }
 
 // Writes the list of the repeats.
@@ -129,7 +129,7 @@ pub extern "C" fn mirror_list(
 ) -> u64
     ensures { λ r. ⌜ Promise (ask (list (now (identifier .entry)))) (now (store .entry)) (lending (now (scratch .entry)) (now (out .entry))) r (now (store .entry)) (lending (now (scratch .exit)) (now (out .exit))) ⌝ }
 {
-    text_calls::list_repeats(store, identifier, scratch, out)
+    list_call::list_repeats(store, identifier, scratch, out)
 }
 
 // Reads a FASTA text: the identifier's length and the number of letters, which go to the buffer.

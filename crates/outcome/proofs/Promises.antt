@@ -51,6 +51,14 @@ module _ (call : Call) (b : Word) (l : Lent) where
   cleared n (damaged h e) z = absurd (omega arith)
   cleared n (judged g e) z = (g, sym e ∙ z)
 
+-- what a verdict of 0 tells
+pub record Answerable (call : Call) (b : Word) (l : Lent) : Type 0 where
+  pub good : Good b
+  pub clear : refusal (ruleOf b) (viewIn b l) call ≡ 0
+
+pub answerable : (call : Call) (b : Word) (l : Lent) (n : ℕ) → Verdict call b l n → n ≡ 0 → Answerable call b l
+answerable call b l n v z = let h = cleared call b l n v z in record { good = h .0; clear = h .1 }
+
 -- ---- an opening
 
 module _ (k : ℕ) (b : Word) where

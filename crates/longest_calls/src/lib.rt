@@ -1,0 +1,49 @@
+// The host's questions about the longest repeat, of all or at an end. Each tests its store, asks nothing
+// of the caller, and changes no byte.
+ghost use Rattle.palindromes.specs.Refusal.{ask, theLongest, theLongestAt};
+ghost use Rattle.store.specs.Side.{endOf};
+ghost use Rattle.outcome.specs.Promise.{nothing, Promise};
+ghost use Rattle.outcome.specs.Verdict.{Verdict};
+use outcome::pack;
+use outcome::refuse;
+use questions::ends;
+use questions::longest;
+use questions::record;
+use store::letters::Side;
+
+// The refusal number of asking the longest repeat, of all or at a side: 0 where it can be answered.
+fn judge_longest(store: &[u8]) -> u64
+    ensures { λ n. ⌜ Verdict (ask theLongest) (now (store .entry)) nothing n ⌝ }
+{
+    if !audit::is_good(store) {
+        return 3;
+    }
+    if record::length(store) == 0 {
+        return 6;
+    }
+    0
+}
+
+// The longest repeat's length and leftmost place.
+pub fn longest_repeat(store: &[u8]) -> u64
+    ensures { λ r. ⌜ Promise (ask theLongest) (now (store .entry)) nothing r (now (store .entry)) nothing ⌝ }
+{
+    let number = judge_longest(store);
+    if number != 0 {
+        return refuse(number);
+    }
+    let found = longest::longest(store);
+    pack(false, 0, found.length, found.place)
+}
+
+// The row of the longest repeat at a side, and whether it stands once only.
+pub fn longest_at(store: &[u8], side: Side) -> u64
+    ensures { λ r. ⌜ Promise (ask (theLongestAt (endOf side))) (now (store .entry)) nothing r (now (store .entry)) nothing ⌝ }
+{
+    let number = judge_longest(store);
+    if number != 0 {
+        return refuse(number);
+    }
+    let found = ends::longest_at(store, side);
+    pack(found.once, found.row, 0, 0)
+}

@@ -1,2 +1,0 @@
--- what the questions that answer numbers promise, on plain values
-pub mod Asking

@@ -1,0 +1,57 @@
+// The host's questions about the record: its length, how many repeats stand, and the letter at a place.
+// Each tests its store and its argument, asks nothing of the caller, and changes no byte.
+ghost use Rattle.palindromes.specs.Refusal.{ask, theLength, theCount, theLetter};
+ghost use Rattle.outcome.specs.Promise.{nothing, Promise};
+ghost use Rattle.outcome.specs.Verdict.{Verdict};
+use outcome::pack;
+use outcome::refuse;
+use questions::record;
+
+// How many letters stand.
+pub fn length(store: &[u8]) -> u64
+    ensures { λ r. ⌜ Promise (ask theLength) (now (store .entry)) nothing r (now (store .entry)) nothing ⌝ }
+{
+    if !audit::is_good(store) {
+        return refuse(3);
+    }
+    pack(false, 0, record::length(store), 0)
+}
+
+// How many distinct repeats stand.
+pub fn count(store: &[u8]) -> u64
+    ensures { λ r. ⌜ Promise (ask theCount) (now (store .entry)) nothing r (now (store .entry)) nothing ⌝ }
+{
+    if !audit::is_good(store) {
+        return refuse(3);
+    }
+    pack(false, 0, record::count(store), 0)
+}
+
+// The refusal number of asking a letter, 0 where it can be answered.
+fn judge_letter(store: &[u8], place: u64) -> u64
+    ensures { λ n. ⌜ Verdict (ask (theLetter place)) (now (store .entry)) nothing n ⌝ }
+{
+    if !audit::is_good(store) {
+        return 3;
+    }
+    if record::length(store) as u64 <= place {
+        return 7;
+    }
+    0
+}
+
+// The letter at a place.
+pub fn letter(store: &[u8], place: u64) -> u64
+    ensures { λ r. ⌜ Promise (ask (theLetter place)) (now (store .entry)) nothing r (now (store .entry)) nothing ⌝ }
+{
+    let number = judge_letter(store, place);
+    if number != 0 {
+        return refuse(number);
+    }
+    pack(
+        false,
+        0,
+        store::cells::wide(record::letter(store, place as usize)),
+        0,
+    )
+}

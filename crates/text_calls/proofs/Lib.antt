@@ -1,2 +1,0 @@
--- what the questions over text promise, on plain values
-pub mod Texts
