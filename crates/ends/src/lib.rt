@@ -3,22 +3,17 @@ use store::header;
 use store::letters;
 use store::letters::Side;
 ghost use mathlib.Core.Path.{_≡_};
-ghost use mathlib.Core.Bool.{cond};
-ghost use Prim.Native.Nat.{ℕ, _<_, _≤_};
-ghost use lib.Dec.{eqb};
-ghost use lib.IntN.{pos};
+ghost use Prim.Native.Nat.{_<_, _≤_};
 ghost use lib.ListN.{length};
-ghost use Rattle.palindromes.specs.End.{other};
-ghost use Rattle.store.specs.Layout.{endRow};
 ghost use Rattle.store.specs.Side.{endOf};
 ghost use Rattle.store.specs.Writes.{writes};
-ghost use Rattle.changes.specs.Steps.{endWrites};
+ghost use Rattle.ends.specs.Steps.{endWrites, Opposite};
 
 // The row of the end across from `side`, at which the longest palindrome of all n letters has the
 // given length: `whole` if it is all of them, and else the row that is there.
 pub fn across(b: &[u8], side: Side, longest: i32, n: usize, whole: usize) -> usize
     requires { ⌜ (48 ≤ length (now b)) × (n < 65536) ⌝ }
-    ensures { λ r. ⌜ ((k : ℕ) → longest ≡ pos k → r ≡ cond (eqb k n) whole (endRow (now (b .entry)) (other (endOf side)))) ⌝ }
+    ensures { λ r. ⌜ Opposite (now (b .entry)) (endOf side) longest n whole r ⌝ }
 {
     let kept = header::end_row(b, letters::other(side));
     let all = n as i32;

@@ -1,24 +1,22 @@
--- What an addition finds in a good store, and the bytes that its writes leave. The walk from the end's row, for the letter as it is read towards the end, meets the row around which
+-- What a letter makes at an end of a good store. The walk from the end's row, for the letter as it is read towards the end, meets the row around which
 -- the letter makes the longest palindrome (`met`). That palindrome stood before exactly if the row's edge by the letter leads on (`found-new`, `found-old`); where the walk meets no row there
 -- is none (`found-none`). Of a new palindrome the link is found by a second walk (`link-single`, `link-stepped`), and its length, inner row and outer letter follow (`row-for`).
--- Last, the writes of the code are those that the definitions name (`added-new`, `added-known`).
 -- Rests on `Found`, `Towards` and `Reading` of walk, on the laws of a good store (`Rows` of transitions) and on the growth of palindromes.
-use Prim.Native.Nat.{ℕ, suc, _+_, _*_, _≤_, _<_}
+use Prim.Native.Nat.{ℕ, suc, _+_}
 use native.Mathlib.Omega.{arith}
 use mathlib.Core.Path.{_≡_, refl, sym, ap, _∙_, subst, subst₃}
-use mathlib.Core.Bool.{true, false, cond, not}
+use mathlib.Core.Bool.{true, not}
 use mathlib.Core.Logic.{⊎-elim}
 use mathlib.Core.List.{[], _∷_, _++_}
-use lib.Dec.{eqb}
-use lib.ListN.{length, take, drop, length-append}
+use lib.ListN.{length, take, length-append}
 use lib.IntN.{ℤ, pos, predℤ}
-use lib.Seq.{sets, take-all}
+use lib.Seq.{take-all}
 use Rattle.palindromes.specs.Word.{Word, isLetter}
 use Rattle.palindromes.specs.Palindrome.{Symmetric}
 use Rattle.palindromes.specs.Place.{Suffix, Stands, stands}
 use Rattle.palindromes.specs.Record.{longestSuffix}
-use Rattle.palindromes.specs.End.{End, atLeft, atRight, other, added}
-use Rattle.palindromes.specs.Node.{Node, imaginary, spelt, lengthOf, linkOf, innerOf, around}
+use Rattle.palindromes.specs.End.{End, atLeft, atRight}
+use Rattle.palindromes.specs.Node.{Node, imaginary, spelt, lengthOf, innerOf, around}
 use Rattle.palindromes.proofs.Tests.{not-true-false, false-not-true, decided}
 use Rattle.palindromes.proofs.Words.{suffix-append, suffix-trans, suffix-snoc-back, suffix-stands}
 use Rattle.palindromes.proofs.Places.{stands-true, stands-is, stands-empty}
@@ -26,11 +24,10 @@ use Rattle.palindromes.proofs.Longest.{longest-suffix}
 use Rattle.palindromes.proofs.Growth.{link-of-framed, link-of-letter, link-stood, inner-around, letter-around}
 use Rattle.eertree.specs.Covers.{NodeOf}
 use Rattle.eertree.proofs.Rows.{reachOf, row-reach-most, imaginary-row}
-use Rattle.store.specs.Layout.{cell, capacityIn, sizeIn, countIn, readingIn, endRow, linkIn, edgeIn, orderIn, usedIn, lettersAt, lettersIn}
+use Rattle.store.specs.Layout.{cell, sizeIn, readingIn, endRow, linkIn, edgeIn, usedIn, lettersIn}
 use Rattle.store.specs.Good.{ruleIn, ruleOf, nodeIn, Good}
 use Rattle.store.specs.Lengths.{Stored}
 use Rattle.store.specs.Side.{endOf}
-use Rattle.store.specs.Writes.{writes}
 use Rattle.store.specs.declared.letters.Side.{Side}
 use Rattle.store.specs.declared.rows.Row.{Row}
 use Rattle.store.proofs.Sizes.{rule-inverse, rule-letter, letters-length}
@@ -43,10 +40,10 @@ use Rattle.walk.proofs.Found.{meets-longest, meets-link}
 use Rattle.walk.proofs.Towards.{longest-towards, longest-towards-added, stands-towards}
 use Rattle.walk.proofs.Stores.{framed-letters, framed-rule}
 use Rattle.walk.proofs.Reading.{covers-read, read-length}
-use Rattle.transitions.specs.Rows.{rowOf, freeRow}
-use Rattle.transitions.specs.Addition.{longestAfter, bringsIn, rowAfter, hangWrites, settleWrites, additionWrites, afterAddition}
-use Rattle.transitions.proofs.Rows.{covers, edges-end, count-most, row-fits, row-of, row-of-empty, edge-row, length-row, free-row}
-use Rattle.changes.specs.Steps.{Met, RowFor, rowHung, endWrites}
+use Rattle.transitions.specs.Rows.{rowOf}
+use Rattle.transitions.specs.Addition.{longestAfter, bringsIn}
+use Rattle.transitions.proofs.Rows.{covers, edges-end, row-of, row-of-empty, edge-row, length-row}
+use Rattle.growth.specs.Steps.{made, linkRow, Met, RowFor, StoodIs}
 
 -- ---- words
 
@@ -70,20 +67,6 @@ framed {b} {f} h side d {start} same P m =
     subst (λ (r : ℕ). P (lettersTowards b (endOf side)) (sizeIn b) (ruleOf b d) r) same
     (subst₃ (λ (t : Word) (k want : ℕ). P t k want start) (framed-letters h side) (h .size-is) (framed-rule h d) m)
 
--- ---- the next free row
-
--- its place in the order and the row itself lie within the store
-pub place-fits : {b : Word} → Good b → sizeIn b < capacityIn b → 24 * (countIn b + 2) + 24 ≤ length b
-place-fits {b} g h = row-fits (g .sized) (countIn b + 2) (omega (arith, count-most g))
-
-pub free-fits : {b : Word} → Good b → sizeIn b < capacityIn b → 24 * freeRow b + 24 ≤ length b
-free-fits {b} g h = row-fits (g .sized) (freeRow b) (free-row g h .1)
-
--- it is the row that stands there
-pub free-is : (b : Word) {count r : ℕ} → count ≡ countIn b → r ≡ cell b (count + 2) 8 → r ≡ freeRow b
-unfolding freeRow orderIn
-free-is b e f = f ∙ ap (λ (k : ℕ). cell b (k + 2) 8) e
-
 -- ---- what is found
 
 module _ {b : Word} (g : Good b) (e : End) where
@@ -104,14 +87,14 @@ module _ {b : Word} (g : Good b) (e : End) where
 
   module _ (d u : ℕ) (l : isLetter d ≡ true) (h : Met b e d (At u)) where
     -- what the letter makes is a palindrome, and ends what is then read
-    grown-symmetric : Symmetric (ruleOf b) (around (ruleOf b) d (nodeIn b u))
+    grown-symmetric : Symmetric (ruleOf b) (made b d u)
     grown-symmetric = subst (Symmetric (ruleOf b)) (h .1) (longest-suffix (ruleOf b) (lettersTowards b e ++ (d ∷ [])) .symmetric)
 
-    grown-suffix : Suffix (around (ruleOf b) d (nodeIn b u)) (lettersTowards b e ++ (d ∷ []))
+    grown-suffix : Suffix (made b d u) (lettersTowards b e ++ (d ∷ []))
     grown-suffix = subst (λ (x : Word). Suffix x (lettersTowards b e ++ (d ∷ []))) (h .1) (longest-suffix (ruleOf b) (lettersTowards b e ++ (d ∷ [])) .suffix)
 
     -- the link of a letter alone is the empty string
-    pub link-single : u ≡ 0 → 1 ≡ rowOf b (linkOf (ruleOf b) (spelt (around (ruleOf b) d (nodeIn b u))))
+    pub link-single : u ≡ 0 → 1 ≡ linkRow b (made b d u)
     link-single z =
         let f : nodeIn b u ≡ imaginary = ap (nodeIn b) z ∙ g .table .row-zero .1 in
         cc (f, link-of-letter (ruleOf b) d, row-of-empty g)
@@ -146,10 +129,10 @@ module _ {b : Word} (g : Good b) (e : End) where
           cc (k, i, row-of-empty g)
 
     pub link-stepped : (u ≡ 0 → ⊥) → (q : ℕ) → Stepped b (lettersTowards b e) (sizeIn b) d (ruleOf b d) (linkIn b u) q
-        → q ≡ rowOf b (linkOf (ruleOf b) (spelt (around (ruleOf b) d (nodeIn b u))))
+        → q ≡ linkRow b (made b d u)
     link-stepped n q s = go (nodeIn b u) refl
       where
-        go : (v : Node) → nodeIn b u ≡ v → q ≡ rowOf b (linkOf (ruleOf b) (spelt (around (ruleOf b) d (nodeIn b u))))
+        go : (v : Node) → nodeIn b u ≡ v → q ≡ linkRow b (made b d u)
         go imaginary f = absurd (n (imaginary-row (covers g) u (h .0) f))
         go (spelt w) f = cc (step-link w f q s, f, link-of-framed (ruleOf b) d w)
 
@@ -168,12 +151,12 @@ module _ {b : Word} (g : Good b) (e : End) where
 
     -- so the row around it says what is right of the new palindrome
     pub row-for : (row : Row) {link : ℕ} → row .length ≡ predℤ (pos (cell b u 0 + 2)) → row .link ≡ link → row .inner ≡ u → row .outer ≡ d
-        → link ≡ rowOf b (linkOf (ruleOf b) (spelt (around (ruleOf b) d (nodeIn b u)))) → RowFor b (around (ruleOf b) d (nodeIn b u)) row
+        → link ≡ linkRow b (made b d u) → RowFor b (made b d u) row
     row-for row i j k m found =
         record {
           length-is = cc (i, length-row g u (h .0), around-length (ruleOf b) d (nodeIn b u));
           link-is = j ∙ found;
-          inner-is = k ∙ sym (row-of g u (innerOf (spelt (around (ruleOf b) d (nodeIn b u)))) (h .0) (sym (inner-around (ruleOf b) d (nodeIn b u))));
+          inner-is = k ∙ sym (row-of g u (innerOf (spelt (made b d u))) (h .0) (sym (inner-around (ruleOf b) d (nodeIn b u))));
           outer-is = m ∙ sym (letter-around (ruleOf b) d (nodeIn b u));
           inner-used = rw k (h .0);
           small = two-more i;
@@ -187,24 +170,24 @@ module _ {b : Word} (g : Good b) (e : End) where
     unfolding longestAfter
     longest-read = rw same (longest-towards-added (ruleOf b) (rule-inverse (readingIn b)) e c (lettersIn b))
 
-    pub longest-met : (u : ℕ) → Met b e d (At u) → longestAfter e c b ≡ around (ruleOf b) d (nodeIn b u)
+    pub longest-met : (u : ℕ) → Met b e d (At u) → longestAfter e c b ≡ made b d u
     longest-met u h = longest-read ∙ h .1
 
     longest-symmetric : Symmetric (ruleOf b) (longestAfter e c b)
     longest-symmetric = subst (Symmetric (ruleOf b)) (sym longest-read) (longest-suffix (ruleOf b) (lettersTowards b e ++ (d ∷ [])) .symmetric)
 
     -- the walk met none: there is no palindrome, and so none is new
-    pub found-none : Met b e d Nothing → (bringsIn e c b ≡ false) × (usedIn b 1 ≡ true) × (nodeIn b 1 ≡ spelt (longestAfter e c b))
+    pub found-none : Met b e d Nothing → StoodIs b e c 1
     unfolding bringsIn
     found-none h =
         let f : longestAfter e c b ≡ [] = longest-read ∙ h in
         let x : stands (longestAfter e c b) (lettersIn b) ≡ true = rw f (stands-is [] (lettersIn b) (stands-empty (lettersIn b))) in
         let r = g .table .row-one in
-        (ap not x, r .0, cc (r .1, f))
+        record { old = ap not x; used = r .0; holds = cc (r .1, f) }
 
     module _ (u : ℕ) (l : isLetter d ≡ true) (h : Met b e d (At u)) where
       -- it stands as a node if it stands
-      longest-node : stands (longestAfter e c b) (lettersIn b) ≡ true → NodeOf (ruleOf b) (lettersIn b) (spelt (around (ruleOf b) d (nodeIn b u)))
+      longest-node : stands (longestAfter e c b) (lettersIn b) ≡ true → NodeOf (ruleOf b) (lettersIn b) (spelt (made b d u))
       longest-node x =
           subst (λ (v : Word). NodeOf (ruleOf b) (lettersIn b) (spelt v)) (longest-met u h)
           (longest-symmetric, stands-true (longestAfter e c b) (lettersIn b) x)
@@ -219,34 +202,14 @@ module _ {b : Word} (g : Good b) (e : End) where
           omega arith)
 
       -- it leads on: the palindrome stood before, in the row at the edge
-      pub found-old : (edgeIn b u d ≡ 0 → ⊥) → (bringsIn e c b ≡ false) × (usedIn b (edgeIn b u d) ≡ true) × (nodeIn b (edgeIn b u d) ≡ spelt (longestAfter e c b))
+      pub found-old : (edgeIn b u d ≡ 0 → ⊥) → StoodIs b e c (edgeIn b u d)
       unfolding bringsIn
       found-old n = ⊎-elim yes-stood (λ x. absurd (n (edges-end g u d (h .0) l λ a. false-not-true x (back a)))) (decided (stands (longestAfter e c b) (lettersIn b)))
         where
-          back : NodeOf (ruleOf b) (lettersIn b) (spelt (around (ruleOf b) d (nodeIn b u))) → stands (longestAfter e c b) (lettersIn b) ≡ true
+          back : NodeOf (ruleOf b) (lettersIn b) (spelt (made b d u)) → stands (longestAfter e c b) (lettersIn b) ≡ true
           back a = stands-is (longestAfter e c b) (lettersIn b) (subst (λ (v : Word). Stands v (lettersIn b)) (sym (longest-met u h)) (a .1))
 
-          yes-stood : stands (longestAfter e c b) (lettersIn b) ≡ true
-              → (not (stands (longestAfter e c b) (lettersIn b)) ≡ false) × (usedIn b (edgeIn b u d) ≡ true) × (nodeIn b (edgeIn b u d) ≡ spelt (longestAfter e c b))
+          yes-stood : stands (longestAfter e c b) (lettersIn b) ≡ true → StoodIs b e c (edgeIn b u d)
           yes-stood x =
               let q = covers g .edge-there u d (h .0) l (longest-node x) in
-              (ap not x, q .0, q .1 ∙ ap spelt (sym (longest-met u h)))
-
--- ---- the bytes
-
-module _ (b : Word) (e : End) (c : ℕ) where
-  -- with a new palindrome
-  pub added-new : {p q z : Word} {base n count r x : ℕ} {row : Row} → base ≡ lettersAt (capacityIn b) → n ≡ sizeIn b → count ≡ countIn b → r ≡ freeRow b
-      → bringsIn e c b ≡ true → RowFor b (longestAfter e c b) row → x ≡ cond (eqb (length (longestAfter e c b)) (n + 1)) r (endRow b (other e))
-      → p ≡ sets b base (added e c (take n (drop base b))) → q ≡ writes p (rowHung row r count) → z ≡ writes q (endWrites e (n + 1) r x) → z ≡ afterAddition e c b
-  unfolding afterAddition additionWrites hangWrites settleWrites rowAfter lettersIn writes
-  added-new i j k m new f y hp hq hz = rw new (cc)
-
-  -- with none
-  pub added-known : Good b → (q : ℕ) {p z : Word} {base n x : ℕ} → base ≡ lettersAt (capacityIn b) → n ≡ sizeIn b
-      → bringsIn e c b ≡ false → usedIn b q ≡ true → nodeIn b q ≡ spelt (longestAfter e c b) → x ≡ cond (eqb (length (longestAfter e c b)) (n + 1)) q (endRow b (other e))
-      → p ≡ sets b base (added e c (take n (drop base b))) → z ≡ writes p (endWrites e (n + 1) q x) → z ≡ afterAddition e c b
-  unfolding afterAddition additionWrites settleWrites rowAfter lettersIn writes
-  added-known g q i j old u f y hp hz =
-      let r = row-of g q (spelt (longestAfter e c b)) u f in
-      rw old (cc)
+              record { old = ap not x; used = q .0; holds = q .1 ∙ ap spelt (sym (longest-met u h)) }

@@ -1,4 +1,2 @@
--- laws by which the code of a change is understood
-pub mod Openings
-pub mod Additions
-pub mod Removals
+-- laws by which the search for what a letter makes is understood
+pub mod Growing

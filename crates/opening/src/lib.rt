@@ -1,16 +1,15 @@
 // Opening: an empty record of a given capacity, whatever the bytes held.
 use store::bytes;
-use store::cells;
 use store::header;
 use store::letters::Side;
+use store::rows;
 use store::rows::Row;
 ghost use mathlib.Core.Path.{_≡_};
 ghost use Prim.Native.Nat.{_+_, _*_, _≤_};
 ghost use lib.ListN.{length};
 ghost use Rattle.palindromes.specs.Refusal.{storeSize};
 ghost use Rattle.store.specs.Writes.{writes};
-ghost use Rattle.transitions.specs.Opening.{orderWrites, opened};
-ghost use Rattle.changes.specs.Steps.{headWrites};
+ghost use Rattle.transitions.specs.Opening.{orderWrites, headWrites, opened};
 
 // Lists the rows from 2 on in rising order, and gives each its rank.
 fn number(b: &mut [u8], capacity: usize)
@@ -19,19 +18,20 @@ fn number(b: &mut [u8], capacity: usize)
 {
     let mut k = 0;
     while k < capacity {
-        cells::put(b, k + 2, 8, k + 2);
-        cells::put(b, k + 2, 9, k);
+        rows::put_order(b, k, k + 2);
+        rows::put_rank(b, k + 2, k);
         k += 1;
     }
 }
 
-// Puts the capacity, the empty string's row and both ends at it.
+// Puts the capacity, the lengths of both roots, and both ends at the empty string.
 fn head(b: &mut [u8], capacity: usize)
     requires { ⌜ 48 ≤ length (now b) ⌝ }
     ensures { λ _. ⌜ now (b .exit) ≡ writes (now (b .entry)) (headWrites capacity) ⌝ }
 {
-    cells::put(b, 0, 8, capacity);
-    cells::put(b, Row::EMPTY, 0, 1);
+    header::set_capacity(b, capacity);
+    rows::put_length(b, Row::IMAGINARY, Row::IMAGINARY_LENGTH);
+    rows::put_length(b, Row::EMPTY, Row::EMPTY_LENGTH);
     header::set_end_row(b, Side::Left, Row::EMPTY);
     header::set_end_row(b, Side::Right, Row::EMPTY);
 }

@@ -29,11 +29,12 @@ use Rattle.store.proofs.Sizes.{rule-inverse, letters-length, used-below}
 use Rattle.walk.specs.Replay.{lettersTowards, Holds, Surveyed}
 use Rattle.walk.proofs.Towards.{towards-removed, longest-towards, stands-towards-test}
 use Rattle.walk.proofs.Stores.{header-fits}
-use Rattle.transitions.specs.Rows.{rowOf}
 use Rattle.transitions.specs.Removal.{longestBefore, takesOut, dropWrites, leaveWrites, removalWrites, afterRemoval}
 use Rattle.transitions.proofs.Letters.{letter-byte}
 use Rattle.transitions.proofs.Rows.{covers, used-rank, used-fits, row-fits, row-of, count-most, outer-letter}
-use Rattle.changes.specs.Steps.{Parts, Leaves, endWrites}
+use Rattle.ends.specs.Steps.{endWrites}
+use Rattle.freeing.specs.Steps.{Leaves}
+use Rattle.removal.specs.Steps.{lastRow, oppositeRow, Parts}
 
 module _ {b : Word} (g : Good b) (e : End) where
   -- ---- what is found
@@ -53,7 +54,7 @@ module _ {b : Word} (g : Good b) (e : End) where
   rest-read = towards-removed (ruleOf b) e (lettersIn b) ∙ ap (λ (n : ℕ). take (n - 1) (lettersTowards b e)) (letters-length (g .sized))
 
   -- the row come to last is the end's row without the letter
-  pub last-row : (last : ℕ) → Holds b (lettersTowards b e) (sizeIn b - 1) last → last ≡ rowOf b (spelt (longestAt (ruleOf b) e (removed e (lettersIn b))))
+  pub last-row : (last : ℕ) → Holds b (lettersTowards b e) (sizeIn b - 1) last → last ≡ lastRow b e
   last-row last h =
       sym (row-of g last (spelt (longestAt (ruleOf b) e (removed e (lettersIn b)))) (h .used)
       (h .holds ∙ ap spelt (ap (longestSuffix (ruleOf b)) (sym rest-read) ∙ sym (longest-towards (ruleOf b) (rule-inverse (readingIn b)) e (removed e (lettersIn b))))))
@@ -175,7 +176,7 @@ module _ {b : Word} (g : Good b) (e : End) where
 
   -- with the palindrome
   pub removed-gone : {p z r : Word} {base n q last x : ℕ} → base ≡ lettersAt (capacityIn b) → n ≡ sizeIn b → q ≡ endRow b e → takesOut e b ≡ true
-      → last ≡ rowOf b (spelt (longestAt (ruleOf b) e (removed e (lettersIn b)))) → x ≡ cond (eqb (length (longestBefore e b)) (sizeIn b)) (linkIn b (endRow b e)) (endRow b (other e))
+      → last ≡ lastRow b e → x ≡ oppositeRow b e
       → p ≡ sets b base (removed e (take n (drop base b)) ++ (0 ∷ [])) → r ≡ writes p (dropWrites p q) → z ≡ writes r (endWrites e (n - 1) last x) → z ≡ afterRemoval e b
   unfolding afterRemoval removalWrites leaveWrites lettersIn writes
   removed-gone i j k gone m y hp hr hz =
@@ -185,7 +186,7 @@ module _ {b : Word} (g : Good b) (e : End) where
 
   -- without it
   pub removed-kept : {p z : Word} {base n last x : ℕ} → base ≡ lettersAt (capacityIn b) → n ≡ sizeIn b → takesOut e b ≡ false
-      → last ≡ rowOf b (spelt (longestAt (ruleOf b) e (removed e (lettersIn b)))) → x ≡ cond (eqb (length (longestBefore e b)) (sizeIn b)) (linkIn b (endRow b e)) (endRow b (other e))
+      → last ≡ lastRow b e → x ≡ oppositeRow b e
       → p ≡ sets b base (removed e (take n (drop base b)) ++ (0 ∷ [])) → z ≡ writes p (endWrites e (n - 1) last x) → z ≡ afterRemoval e b
   unfolding afterRemoval removalWrites leaveWrites lettersIn writes
   removed-kept i j kept m y hp hz = rw kept (cc)

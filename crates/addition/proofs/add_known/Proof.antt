@@ -1,4 +1,4 @@
--- `changes::addition::add_known` puts the letter down and settles the ends. Assumes nothing.
+-- `addition::add_known` puts the letter down and settles the ends. Assumes nothing.
 use native.Mathlib.Omega.{arith}
 use mathlib.Core.Path.{ap, _∙_}
 use borrow.Author.Needs.{needs}
@@ -9,39 +9,63 @@ use Rattle.store.proofs.Signed.{kept}
 use Rattle.walk.proofs.Stores.{header-fits, store-long}
 use Rattle.transitions.specs.Addition.{longestAfter}
 use Rattle.transitions.proofs.Rows.{used-fits}
-use Rattle.changes.proofs.Additions.{added-known}
-use Rattle.changes.proofs.addition.add_known.Statement.{statement}
-use Rattle.changes.proofs.addition.add_known.Tie as tie
+use Rattle.addition.proofs.Additions.{added-known}
+use Rattle.addition.proofs.add_known.Statement.{statement}
+use Rattle.addition.proofs.add_known.Tie as tie
+
+-- the place behind each call, from the place behind the next
+abbrev entry : tie.After-frame-of → tie.Start
+entry c = c .before .before .before
+
+abbrev at-frame : tie.After-length-of → tie.After-frame-of
+at-frame c = c .before .before
+
+abbrev at-length : tie.After-across → tie.After-length-of
+at-length c = c .before .before .before
+
+abbrev at-across : tie.After-join → tie.After-across
+at-across c = c .before .before
+
+abbrev at-join : tie.After-settle → tie.After-join
+at-join c = c .before .before .before .before .before
 
 length-of-requires : tie.Need-length-of-requires
-length-of-requires c κs = used-fits (c .before .before .before .before .pre .0) (c .before .before .before .before .args .q) (c .before .before .before .before .pre .1 .1 .1)
+length-of-requires c κs =
+    let s = entry (c .before) in
+    used-fits (s .pre .0) (s .args .q) (s .pre .1 .1 .used)
 
 across-requires : tie.Need-across-requires
 across-requires c κs =
-    let p = c .before .before .before .before .before .before .before .pre in
-    (header-fits (p .0 .sized), omega (arith, c .before .before .before .before .frame-of .ensures .size-is, p .0 .sized .at-most, p .1 .0))
+    let f = at-frame (c .before .before) in
+    let p = entry f .pre in
+    (header-fits (p .0 .sized), omega (arith, f .frame-of .ensures .size-is, p .0 .sized .at-most, p .1 .0))
 
 join-requires : tie.Need-join-requires
 join-requires c κs =
-    let p = c .before .before .before .before .before .before .before .before .before .pre in
-    let f = c .before .before .before .before .before .before .frame-of .ensures in
-    omega (arith, f .base-is, f .size-is, store-long (p .0 .sized), p .1 .0)
+    let f = at-frame (at-length (c .before)) in
+    let p = entry f .pre in
+    omega (arith, f .frame-of .ensures .base-is, f .frame-of .ensures .size-is, store-long (p .0 .sized), p .1 .0)
 
 settle-requires : tie.Need-settle-requires
-settle-requires c κs = omega (arith, header-fits (c .before .before .before .before .before .before .before .before .before .before .before .before .before .before .pre .0 .sized), c .before .before .before .before .join .kept)
+settle-requires c κs =
+    let j = c .before .before .before .before in
+    omega (arith, header-fits (entry (at-frame (at-length (at-across j))) .pre .0 .sized), j .join .kept)
 
 returns : tie.Need-returns
 unfolding lengthOf
 returns c =
-    let s = c .before .before .before .before .before .before .before .before .before .before .before .before .before .before .before .before .before in
+    let settled = c .before .before in
+    let j = at-join settled in
+    let x = at-across j in
+    let l = at-length x .length-of .ensures in
+    let f = at-frame (at-length x) .frame-of .ensures in
+    let s = entry (at-frame (at-length x)) in
     let a = s .args in
-    let p = s .pre in
-    let f = c .before .before .before .before .before .before .before .before .before .before .before .before .before .before .frame-of .ensures in
-    let old = p .1 .1 in
-    let l = c .before .before .before .before .before .before .before .before .before .before .before .before .length-of .ensures in
-    added-known (a .b .now) (endOf (a .side)) (a .c) (p .0) (a .q) (f .base-is) (f .size-is) (old .0) (old .1) (old .2)
-    (c .before .before .before .before .before .before .before .before .before .across .ensures (length (longestAfter (endOf (a .side)) (a .c) (a .b .now))) (kept (l .1) ∙ l .0 ∙ p .0 .table .length-is (a .q) (old .1) ∙ ap lengthOf (old .2)))
-    (c .before .before .before .before .before .before .before .join .ensures) (c .before .before .settle .ensures)
+    let g = s .pre .0 in
+    let old = s .pre .1 .1 in
+    let longest = kept (l .1) ∙ l .0 ∙ g .table .length-is (a .q) (old .used) ∙ ap lengthOf (old .holds) in
+    added-known (a .b .now) (endOf (a .side)) (a .c) g (a .q) (f .base-is) (f .size-is) old
+    (x .across .ensures (length (longestAfter (endOf (a .side)) (a .c) (a .b .now))) longest) (j .join .ensures) (settled .settle .ensures)
 
 pub add-known-spec : {M : Type 1} → statement M
 add-known-spec =

@@ -19,13 +19,14 @@ add-requires c κs = let a = addable _ _ _ _ (c .before .before .judge-add .ensu
 answer-added-requires : tie.Need-answer-added-requires
 answer-added-requires c κs =
     let called = c .before .before in
-    added-fits _ _ _ _ (addable _ _ _ _ (called .before .before .before .judge-add .ensures) (called .before .before .if1 .left)) (called .add .ensures .1)
+    added-fits _ _ _ _ (addable _ _ _ _ (called .before .before .before .judge-add .ensures) (called .before .before .if1 .left)) (called .add .ensures .answer)
 
 returns-2 : tie.Need-returns-2
 returns-2 c =
     let called = c .before .before .before in
-    added _ _ _ _ (addable _ _ _ _ (called .before .before .before .judge-add .ensures) (called .before .before .if1 .left))
-    (called .add .ensures .1) (c .answer-added .ensures) (called .add .ensures .0)
+    let a = addable _ _ _ _ (called .before .before .before .judge-add .ensures) (called .before .before .if1 .left) in
+    let done = called .add .ensures in
+    added _ _ _ _ a (done .answer) (c .answer-added .ensures) (done .store)
 
 pub add-letter-spec : {M : Type 1} → statement M
 add-letter-spec =

@@ -1,12 +1,12 @@
--- `changes::ends::across` compares the length with the number of letters. Assumes nothing.
+-- `ends::across` compares the length with the number of letters. Assumes nothing.
 use mathlib.Core.Path.{_≡_, sym, ap, _∙_}
 use borrow.Author.Needs.{needs}
 use borrow.Author.Tests.{eq-eqb, ne-eqb}
 use mir.Syntax.{w32}
 use mir.Val.{ofZ}
 use Rattle.store.specs.Layout.{endRow}
-use Rattle.changes.proofs.ends.across.Statement.{statement}
-use Rattle.changes.proofs.ends.across.Tie as tie
+use Rattle.ends.proofs.across.Statement.{statement}
+use Rattle.ends.proofs.across.Tie as tie
 
 returns : tie.Need-returns
 returns c k e =

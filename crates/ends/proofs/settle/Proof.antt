@@ -1,8 +1,8 @@
--- `changes::ends::settle` writes the number of letters and the rows of both ends. Assumes nothing.
+-- `ends::settle` writes the number of letters and the rows of both ends. Assumes nothing.
 use borrow.Author.Needs.{needs}
 use Rattle.store.specs.Writes.{writes}
-use Rattle.changes.proofs.ends.settle.Statement.{statement}
-use Rattle.changes.proofs.ends.settle.Tie as tie
+use Rattle.ends.proofs.settle.Statement.{statement}
+use Rattle.ends.proofs.settle.Tie as tie
 
 returns : tie.Need-returns
 unfolding writes

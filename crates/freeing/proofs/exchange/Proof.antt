@@ -1,8 +1,8 @@
--- `changes::removal::exchange` writes two places of the order and two ranks. Assumes nothing.
+-- `freeing::exchange` writes two places of the order and two ranks. Assumes nothing.
 use borrow.Author.Needs.{needs}
 use Rattle.store.specs.Writes.{writes}
-use Rattle.changes.proofs.removal.exchange.Statement.{statement}
-use Rattle.changes.proofs.removal.exchange.Tie as tie
+use Rattle.freeing.proofs.exchange.Statement.{statement}
+use Rattle.freeing.proofs.exchange.Tie as tie
 
 returns : tie.Need-returns
 unfolding writes
@@ -11,5 +11,4 @@ returns c = cc
 pub exchange-spec : {M : Type 1} → statement M
 exchange-spec =
     tie.close
-    (tie.spec (λ c. search needs) (λ c κs. search needs) (λ c κs. search needs) (λ c. search needs) (λ c κs. search needs) (λ c κs. search needs)
-    (λ c. search needs) returns)
+    (tie.spec (λ c κs. search needs) (λ c κs. search needs) (λ c κs. search needs) (λ c κs. search needs) (λ c. search needs) returns)

@@ -1,9 +1,9 @@
--- `changes::removal::free` clears a row and the edge that leads to it, and moves the row behind the rows in use. Assumes nothing.
+-- `freeing::free` clears a row and the edge that leads to it, and moves the row behind the rows in use. Assumes nothing.
 use borrow.Author.Needs.{needs}
 use Rattle.store.specs.Writes.{writes}
 use Rattle.transitions.specs.Removal.{dropWrites}
-use Rattle.changes.proofs.removal.free.Statement.{statement}
-use Rattle.changes.proofs.removal.free.Tie as tie
+use Rattle.freeing.proofs.free.Statement.{statement}
+use Rattle.freeing.proofs.free.Tie as tie
 
 returns : tie.Need-returns
 unfolding writes dropWrites

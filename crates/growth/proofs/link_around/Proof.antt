@@ -1,4 +1,4 @@
--- `changes::addition::link_around` finds the link of a new palindrome by a second walk, from the link of the row that grew. Assumes nothing.
+-- `growth::link_around` finds the link of a new palindrome by a second walk, from the link of the row that grew. Assumes nothing.
 use native.Mathlib.Omega.{arith}
 use borrow.Author.Needs.{needs}
 use Prim.Native.Nat.{ℕ}
@@ -9,9 +9,9 @@ use Rattle.walk.specs.Walk.{Stepped}
 use Rattle.walk.proofs.Stores.{framed-within}
 use Rattle.walk.proofs.Reading.{good-chain}
 use Rattle.transitions.proofs.Rows.{covers, used-fits}
-use Rattle.changes.proofs.Additions.{framed, link-single, link-stepped}
-use Rattle.changes.proofs.addition.link_around.Statement.{statement}
-use Rattle.changes.proofs.addition.link_around.Tie as tie
+use Rattle.growth.proofs.Growing.{framed, link-single, link-stepped}
+use Rattle.growth.proofs.link_around.Statement.{statement}
+use Rattle.growth.proofs.link_around.Tie as tie
 
 returns : tie.Need-returns
 returns c =

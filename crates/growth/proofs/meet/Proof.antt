@@ -1,4 +1,4 @@
--- `changes::addition::meet` walks from the row of the end over all the letters. Assumes nothing.
+-- `growth::meet` walks from the row of the end over all the letters. Assumes nothing.
 use native.Mathlib.Omega.{arith}
 use borrow.Author.Needs.{needs}
 use Prim.Native.Nat.{ℕ}
@@ -8,9 +8,9 @@ use Rattle.store.specs.Side.{endOf}
 use Rattle.walk.specs.Walk.{Meets}
 use Rattle.walk.proofs.Stores.{header-fits, framed-within}
 use Rattle.walk.proofs.Reading.{good-chain}
-use Rattle.changes.proofs.Additions.{framed, met}
-use Rattle.changes.proofs.addition.meet.Statement.{statement}
-use Rattle.changes.proofs.addition.meet.Tie as tie
+use Rattle.growth.proofs.Growing.{framed, met}
+use Rattle.growth.proofs.meet.Statement.{statement}
+use Rattle.growth.proofs.meet.Tie as tie
 
 end-row-requires : tie.Need-end-row-requires
 end-row-requires c κs = header-fits (c .before .before .pre .sized)

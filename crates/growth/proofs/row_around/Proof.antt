@@ -1,4 +1,4 @@
--- `changes::addition::row_around` makes the row of a new palindrome: its length is that of the row that grew plus two. Assumes nothing.
+-- `growth::row_around` makes the row of a new palindrome: its length is that of the row that grew plus two. Assumes nothing.
 use Prim.Native.Nat.{_+_}
 use mathlib.Core.Path.{_≡_, _∙_}
 use borrow.Author.Needs.{needs}
@@ -7,9 +7,9 @@ use Rattle.store.specs.Layout.{cell, lengthIn}
 use Rattle.store.specs.Side.{endOf}
 use Rattle.store.proofs.Signed.{kept}
 use Rattle.transitions.proofs.Rows.{used-fits}
-use Rattle.changes.proofs.Additions.{two-more, row-for}
-use Rattle.changes.proofs.addition.row_around.Statement.{statement}
-use Rattle.changes.proofs.addition.row_around.Tie as tie
+use Rattle.growth.proofs.Growing.{two-more, row-for}
+use Rattle.growth.proofs.row_around.Statement.{statement}
+use Rattle.growth.proofs.row_around.Tie as tie
 
 length-of-requires : tie.Need-length-of-requires
 length-of-requires c κs = used-fits (c .before .pre .0) (c .before .args .u) (c .before .pre .1 .1 .0)

@@ -1,8 +1,8 @@
--- `changes::addition::hang` writes a row, the edge that leads to it and the count. Assumes nothing.
+-- `insertion::hang` writes a row, the edge that leads to it and the count. Assumes nothing.
 use borrow.Author.Needs.{needs}
 use Rattle.store.specs.Writes.{writes}
-use Rattle.changes.proofs.addition.hang.Statement.{statement}
-use Rattle.changes.proofs.addition.hang.Tie as tie
+use Rattle.insertion.proofs.hang.Statement.{statement}
+use Rattle.insertion.proofs.hang.Tie as tie
 
 returns : tie.Need-returns
 unfolding writes

@@ -1,4 +1,4 @@
--- `changes::opening::number` lists the rows in rising order. The loop's invariant: the first k of them are listed. Assumes nothing.
+-- `opening::number` lists the rows in rising order. The loop's invariant: the first k of them are listed. Assumes nothing.
 use Prim.Native.Nat.{_-_, _≤_}
 use native.Mathlib.Omega.{arith}
 use mathlib.Core.Path.{_≡_, refl}
@@ -6,9 +6,9 @@ use borrow.Author.Needs.{needs}
 use lib.ListN.{length}
 use Rattle.store.specs.Writes.{writes}
 use Rattle.transitions.specs.Opening.{orderWrites}
-use Rattle.changes.proofs.Openings.{order-none, order-more}
-use Rattle.changes.proofs.opening.number.Statement.{statement}
-use Rattle.changes.proofs.opening.number.Tie as tie
+use Rattle.opening.proofs.Openings.{order-none, order-more}
+use Rattle.opening.proofs.number.Statement.{statement}
+use Rattle.opening.proofs.number.Tie as tie
 
 abbrev Inv-loop : tie.InvT-loop
 Inv-loop b₀ capacity k₀ b k = (k ≤ capacity) × (length b ≡ length b₀) × (b ≡ writes b₀ (orderWrites k))
@@ -29,5 +29,5 @@ returns c =
 pub number-spec : {M : Type 1} → statement M
 number-spec =
     tie.close
-    (tie.spec Inv-loop μ-loop (λ c. (search needs, refl, order-none (c .before .args .b .now))) (λ c. search needs) (λ c. search needs) (λ c κs. search needs)
-    (λ c. search needs) (λ c κs. search needs) (λ c. search needs) (λ c. search needs) loop-again (λ c. search needs) returns)
+    (tie.spec Inv-loop μ-loop (λ c. (search needs, refl, order-none (c .before .args .b .now))) (λ c. search needs) (λ c κs. search needs) (λ c. search needs)
+    (λ c κs. search needs) (λ c. search needs) (λ c. search needs) loop-again (λ c. search needs) returns)

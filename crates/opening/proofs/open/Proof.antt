@@ -1,11 +1,11 @@
--- `changes::opening::open` clears what the store uses, and writes the header and the order. Assumes nothing.
+-- `opening::open` clears what the store uses, and writes the header and the order. Assumes nothing.
 use native.Mathlib.Omega.{arith}
 use borrow.Author.Needs.{needs}
 use Rattle.palindromes.specs.Refusal.{storeSize}
 use Rattle.store.specs.Writes.{writes}
 use Rattle.transitions.specs.Opening.{openingWrites, opened}
-use Rattle.changes.proofs.opening.open.Statement.{statement}
-use Rattle.changes.proofs.opening.open.Tie as tie
+use Rattle.opening.proofs.open.Statement.{statement}
+use Rattle.opening.proofs.open.Tie as tie
 
 clear-requires : tie.Need-clear-requires
 unfolding storeSize

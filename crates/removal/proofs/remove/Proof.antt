@@ -1,20 +1,24 @@
--- `changes::removal::remove` answers the letter, and the row where its palindrome went. Assumes nothing.
+-- `removal::remove` answers the letter, and the row where its palindrome went. Assumes nothing.
 use mathlib.Core.Path.{ap, _∙_}
 use mathlib.Core.Bool.{not}
 use borrow.Author.Needs.{needs}
 use Rattle.outcome.specs.declared.answers.Removed.the-variants.{Kept}
-use Rattle.changes.proofs.removal.remove.Statement.{statement}
-use Rattle.changes.proofs.removal.remove.Tie as tie
+use Rattle.removal.proofs.remove.Statement.{statement}
+use Rattle.removal.proofs.remove.Tie as tie
 
 returns : tie.Need-returns
 returns c =
-    let h = c .before .before .before .before .before .part .ensures in
-    (c .before .before .leave-rows .ensures, rw (h .met-is ∙ ap not (c .before .before .before .before .if1 .taken)) (ap Kept (h .letter-is)))
+    let called = c .before .before in
+    let tested = called .before .before in
+    let h = tested .before .part .ensures in
+    record { store = called .leave-rows .ensures; answer = rw (h .met-is ∙ ap not (tested .if1 .taken)) (ap Kept (h .letter-is)) }
 
 returns-2 : tie.Need-returns-2
 returns-2 c =
-    let h = c .before .before .before .before .before .part .ensures in
-    (c .before .before .take-out .ensures, rw (h .met-is ∙ ap not (c .before .before .before .before .if1 .left)) (cc (h .letter-is, h .row-is)))
+    let called = c .before .before in
+    let tested = called .before .before in
+    let h = tested .before .part .ensures in
+    record { store = called .take-out .ensures; answer = rw (h .met-is ∙ ap not (tested .if1 .left)) (cc (h .letter-is, h .row-is)) }
 
 pub remove-spec : {M : Type 1} → statement M
 remove-spec =
