@@ -5,7 +5,7 @@ use outcome::answers::Added;
 use store::letters;
 use store::letters::Side;
 use store::rows;
-use walk::replay;
+use walk::frame;
 ghost use mathlib.Core.Path.{_≡_};
 ghost use mathlib.Core.Bool.{true};
 ghost use Prim.Native.Nat.{_<_};
@@ -24,7 +24,7 @@ fn add_known(b: &mut [u8], side: Side, c: u8, q: usize)
     requires { ⌜ StoodIs (now b) (endOf side) c q ⌝ }
     ensures { λ _. ⌜ now (b .exit) ≡ afterAddition (endOf side) c (now (b .entry)) ⌝ }
 {
-    let f = replay::frame_of(b);
+    let f = frame::frame_of(b);
     let longest = rows::length_of(b, q);
     let opposite = ends::across(b, side, longest, f.n + 1, q);
     letters::join(b, f.base, f.n, side, c);

@@ -25,15 +25,16 @@ use Rattle.palindromes.proofs.Growth.{link-of-framed, link-of-letter, link-stoo
 use Rattle.eertree.specs.Covers.{NodeOf}
 use Rattle.eertree.proofs.Rows.{reachOf, row-reach-most, imaginary-row}
 use Rattle.store.specs.Layout.{cell, sizeIn, readingIn, endRow, linkIn, edgeIn, usedIn, lettersIn}
-use Rattle.store.specs.Good.{ruleIn, ruleOf, nodeIn, Good}
+use Rattle.store.specs.Good.{ruleOf, nodeIn, Good}
 use Rattle.store.specs.Lengths.{Stored}
 use Rattle.store.specs.Side.{endOf}
 use Rattle.store.specs.declared.letters.Side.{Side}
 use Rattle.store.specs.declared.rows.Row.{Row}
 use Rattle.store.proofs.Sizes.{rule-inverse, rule-letter, letters-length}
-use Rattle.walk.specs.Walk.{seenIn, Meets, Stepped, grown, ended, Found}
-use Rattle.walk.specs.Replay.{Frames, lettersTowards, letterTowards}
-use Rattle.walk.specs.declared.replay.Frame.{Frame}
+use Rattle.walk.specs.Walk.{Meets, Stepped, grown, ended, Found}
+use Rattle.walk.specs.Frame.{Frames, seenIn, partnerIn}
+use Rattle.walk.specs.Replay.{lettersTowards, letterTowards}
+use Rattle.walk.specs.declared.frame.Frame.{Frame}
 use Rattle.walk.specs.declared.Walked.{Walked}
 use Rattle.walk.specs.declared.Walked.the-variants.{At, Nothing}
 use Rattle.walk.proofs.Found.{meets-longest, meets-link}
@@ -62,7 +63,7 @@ letter-read b atLeft c d f l = rw f (rule-letter (readingIn b) c l)
 
 -- what holds of a walk over the letters that the frame of a store shows, all of them read, holds of the store's letters as they are read towards the end
 pub framed : {b : Word} {f : Frame} → Frames b f → (side : Side) (d : ℕ) {start row : ℕ} → start ≡ row → (P : Word → ℕ → ℕ → ℕ → Type 0)
-    → P (seenIn b (f .reading) (f .base) (f .n) side) (f .n) (ruleIn (f .reading) d) start → P (lettersTowards b (endOf side)) (sizeIn b) (ruleOf b d) row
+    → P (seenIn b f side) (f .n) (partnerIn f d) start → P (lettersTowards b (endOf side)) (sizeIn b) (ruleOf b d) row
 framed {b} {f} h side d {start} same P m =
     subst (λ (r : ℕ). P (lettersTowards b (endOf side)) (sizeIn b) (ruleOf b d) r) same
     (subst₃ (λ (t : Word) (k want : ℕ). P t k want start) (framed-letters h side) (h .size-is) (framed-rule h d) m)

@@ -7,7 +7,7 @@ use store::letters::Side;
 use store::rows;
 use store::rows::Row;
 use walk::Walked;
-use walk::replay;
+use walk::frame;
 ghost use mathlib.Core.Path.{_≡_};
 ghost use mathlib.Core.Bool.{true};
 ghost use Rattle.palindromes.specs.Word.{isLetter};
@@ -38,9 +38,9 @@ fn meet(b: &[u8], side: Side, d: u8) -> Walked
     requires { ⌜ Good (now b) ⌝ }
     ensures { λ r. ⌜ Met (now (b .entry)) (endOf side) d r ⌝ }
 {
-    let f = replay::frame_of(b);
+    let f = frame::frame_of(b);
     let start = header::end_row(b, side);
-    walk::walk(b, f.reading, f.base, f.n, side, f.n, start, d)
+    walk::walk(b, f, side, f.n, start, d)
 }
 
 // The link of what d makes around row u: for a single letter the empty string, with no second walk.
@@ -52,9 +52,9 @@ fn link_around(b: &[u8], side: Side, d: u8, u: usize) -> usize
     if u == Row::IMAGINARY {
         return Row::EMPTY;
     }
-    let f = replay::frame_of(b);
+    let f = frame::frame_of(b);
     let start = rows::link_of(b, u);
-    walk::step(b, f.reading, f.base, f.n, side, f.n, start, d)
+    walk::step(b, f, side, f.n, start, d)
 }
 
 // The row of what d makes around row u.

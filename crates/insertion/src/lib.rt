@@ -5,7 +5,7 @@ use store::letters;
 use store::letters::Side;
 use store::rows;
 use store::rows::Row;
-use walk::replay;
+use walk::frame;
 ghost use mathlib.Core.Path.{_≡_};
 ghost use Prim.Native.Nat.{_+_, _*_, _<_, _≤_};
 ghost use lib.ListN.{length};
@@ -37,7 +37,7 @@ pub fn insert(b: &mut [u8], side: Side, c: u8, row: Row) -> usize
     requires { ⌜ FreshIs (now b) (endOf side) c row ⌝ }
     ensures { λ r. ⌜ (now (b .exit) ≡ afterAddition (endOf side) c (now (b .entry))) × (r ≡ freeRow (now (b .entry))) ⌝ }
 {
-    let f = replay::frame_of(b);
+    let f = frame::frame_of(b);
     let count = header::count(b);
     let r = rows::order_of(b, count);
     let opposite = ends::across(b, side, row.length, f.n + 1, r);

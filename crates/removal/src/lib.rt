@@ -5,6 +5,7 @@ use store::header;
 use store::letters;
 use store::letters::Side;
 use store::rows;
+use walk::frame;
 use walk::replay;
 ghost use mathlib.Core.Path.{_≡_};
 ghost use mathlib.Core.Bool.{true, false};
@@ -31,7 +32,7 @@ fn part(b: &[u8], side: Side) -> Parting
     requires { ⌜ 0 < sizeIn (now b) ⌝ }
     ensures { λ r. ⌜ Parts (now (b .entry)) (endOf side) r ⌝ }
 {
-    let f = replay::frame_of(b);
+    let f = frame::frame_of(b);
     let row = header::end_row(b, side);
     let found = replay::survey(b, side, f.n - 1, row);
     let longest = rows::length_of(b, row);
@@ -52,7 +53,7 @@ fn take_out(b: &mut [u8], side: Side, p: Parting)
     requires { ⌜ Parts (now b) (endOf side) p × (p .met ≡ false) ⌝ }
     ensures { λ _. ⌜ now (b .exit) ≡ afterRemoval (endOf side) (now (b .entry)) ⌝ }
 {
-    let f = replay::frame_of(b);
+    let f = frame::frame_of(b);
     letters::leave(b, f.base, f.n, side);
     freeing::free(b, p.row);
     ends::settle(b, side, f.n - 1, p.last, p.opposite);
@@ -65,7 +66,7 @@ fn leave_rows(b: &mut [u8], side: Side, p: Parting)
     requires { ⌜ Parts (now b) (endOf side) p × (p .met ≡ true) ⌝ }
     ensures { λ _. ⌜ now (b .exit) ≡ afterRemoval (endOf side) (now (b .entry)) ⌝ }
 {
-    let f = replay::frame_of(b);
+    let f = frame::frame_of(b);
     letters::leave(b, f.base, f.n, side);
     ends::settle(b, side, f.n - 1, p.last, p.opposite);
 }
