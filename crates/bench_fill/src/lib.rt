@@ -2,7 +2,6 @@
 // capacity 1,024 is opened and letters are added at its right end, as mirrorlist does.
 ghost use Rattle.bench_fill.specs.Fills.{Fills};
 use alphabet::all_letters;
-use changes::opening;
 use printing::record;
 
 // Fills a record, and answers how many letters it was given; 0 where it has no room or a byte is no

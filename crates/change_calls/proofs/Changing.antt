@@ -20,7 +20,7 @@ use Rattle.transitions.specs.Rows.{rowOf, freeRow}
 use Rattle.transitions.specs.Opening.{opened}
 use Rattle.transitions.specs.Addition.{longestAfter, bringsIn, rowAfter, afterAddition}
 use Rattle.transitions.specs.Removal.{longestBefore, takesOut, afterRemoval}
-use Rattle.transitions.proofs.Rows.{end-row, end-small, free-row, row-small}
+use Rattle.transitions.proofs.Rows.{end-row, end-small, free-below, row-small}
 use Rattle.outcome.specs.declared.answers.Added.{Added}
 use Rattle.outcome.specs.declared.answers.Removed.{Removed}
 use Rattle.outcome.specs.Reply.{packed, accepted, refusedWith}
@@ -29,7 +29,7 @@ use Rattle.outcome.specs.Outcome.{viewIn, acceptedOutcome, changed}
 use Rattle.outcome.specs.Promise.{nothing, Promise, OpeningPromise}
 use Rattle.outcome.specs.Verdict.{Verdict, judged}
 use Rattle.outcome.proofs.Refusals.{add-letter, add-full, add-accepted, remove-empty, remove-accepted, opening-capacity, opening-short, opening-accepted}
-use Rattle.outcome.proofs.Promises.{cleared, carried, opening-refused, opening-carried}
+use Rattle.outcome.proofs.Promises.{cleared, carried, opening-refused, opening-carried, add-cleared}
 
 -- ---- an opening
 
@@ -75,16 +75,8 @@ pub record Addable (e : End) (c : ℕ) (b : Word) : Type 0 where
 pub addable : (e : End) (c : ℕ) (b : Word) (n : ℕ) → Verdict (add e c) b nothing n → n ≡ 0 → Addable e c b
 addable e c b n v z =
     let h = cleared (add e c) b nothing n v z in
-    let l : isLetter c ≡ true = letter (h .1) (isLetter c) refl in
-    record { good = h .0; letter = l; room = space (h .0) l (h .1) (leb (capacityIn b) (sizeIn b)) refl; clear = h .1 }
-  where
-    letter : refusal (ruleOf b) (viewIn b nothing) (add e c) ≡ 0 → (t : Bool) → isLetter c ≡ t → isLetter c ≡ true
-    letter k true x = x
-    letter k false x = absurd (omega (arith, add-letter b nothing e c x))
-
-    space : Good b → isLetter c ≡ true → refusal (ruleOf b) (viewIn b nothing) (add e c) ≡ 0 → (t : Bool) → leb (capacityIn b) (sizeIn b) ≡ t → sizeIn b < capacityIn b
-    space g l k true x = absurd (omega (arith, add-full b nothing e c l (omega (arith, leb-true (capacityIn b) (sizeIn b) x, letters-length (g .sized)))))
-    space g l k false x = leb-false (capacityIn b) (sizeIn b) x
+    let a = add-cleared e c b (h .0) (h .1) in
+    record { good = h .0; letter = a .0; room = a .1; clear = h .1 }
 
 -- the row of what an addition answers fits its two bytes
 pub added-fits : (e : End) (c : ℕ) (b : Word) (a : Added) → Addable e c b → a ≡ addedOf (bringsIn e c b) (freeRow b) → addedReply a .row < 65536
@@ -92,7 +84,7 @@ unfolding addedReply accepted
 added-fits e c b a h q = subst (λ (x : Added). addedReply x .row < 65536) (sym q) (go (bringsIn e c b))
   where
     go : (t : Bool) → addedReply (addedOf t (freeRow b)) .row < 65536
-    go true = row-small (h .good) (freeRow b) (free-row (h .good) (h .room) .1)
+    go true = row-small (h .good) (freeRow b) (free-below (h .good) (h .room))
     go false = omega arith
 
 pub added : (e : End) (c : ℕ) (b : Word) (a : Added) {r : ℕ} {b′ : Word} → Addable e c b → a ≡ addedOf (bringsIn e c b) (freeRow b) → r ≡ packed (addedReply a) → b′ ≡ afterAddition e c b

@@ -5,11 +5,8 @@ ghost use mathlib.Core.Path.{_≡_};
 ghost use Rattle.palindromes.specs.Word.{isLetter};
 ghost use Rattle.palindromes.specs.Refusal.{add, remove};
 ghost use Rattle.store.specs.Side.{endOf};
-ghost use Rattle.outcome.specs.Promise.{nothing, Promise, OpeningPromise};
+ghost use Rattle.outcome.specs.Promise.{nothing, Promise, OpeningPromise, FreeRow};
 ghost use Rattle.outcome.specs.Verdict.{Verdict};
-use changes::addition;
-use changes::opening;
-use changes::removal;
 use outcome::answers;
 use outcome::pack;
 use outcome::refuse;
@@ -68,7 +65,8 @@ fn judge_add(store: &[u8], side: Side, letter: u64) -> u64
 
 // Adds a letter at a side: 1 and the new row, or 0 and row 0.
 pub fn add_letter(store: &mut [u8], side: Side, letter: u64) -> u64
-    ensures { λ r. ⌜ Promise (add (endOf side) letter) (now (store .entry)) nothing r (now (store .exit)) nothing ⌝ }
+    ensures promise { λ r. ⌜ Promise (add (endOf side) letter) (now (store .entry)) nothing r (now (store .exit)) nothing ⌝ }
+    ensures free { λ _. ⌜ FreeRow (endOf side) letter (now (store .entry)) ⌝ }
 {
     let number = judge_add(store, side, letter);
     if number != 0 {

@@ -4,7 +4,7 @@ ghost use Rattle.palindromes.specs.End.{atLeft, atRight};
 ghost use mathlib.Core.List.{[]};
 ghost use Rattle.palindromes.specs.Refusal.{ask, add, remove, theLength, theCount, theLongest, theLongestAt, theLetter, theRow, spell, find, list};
 ghost use Rattle.fasta_call.specs.Answer.{FastaPromise};
-ghost use Rattle.outcome.specs.Promise.{lending, nothing, Promise, OpeningPromise};
+ghost use Rattle.outcome.specs.Promise.{lending, nothing, Promise, OpeningPromise, FreeRow};
 use store::letters::Side;
 
 // Opens an empty record of the given capacity.
@@ -18,7 +18,8 @@ pub extern "C" fn mirror_open(store: &mut [u8], capacity: u64) -> u64
 // Adds a letter at the left end.
 #[no_mangle]
 pub extern "C" fn mirror_add_left(store: &mut [u8], letter: u64) -> u64
-    ensures { λ r. ⌜ Promise (add atLeft letter) (now (store .entry)) nothing r (now (store .exit)) nothing ⌝ }
+    ensures promise { λ r. ⌜ Promise (add atLeft letter) (now (store .entry)) nothing r (now (store .exit)) nothing ⌝ }
+    ensures free { λ _. ⌜ FreeRow atLeft letter (now (store .entry)) ⌝ }
 {
     change_calls::add_letter(store, Side::Left, letter)
 }
@@ -26,7 +27,8 @@ pub extern "C" fn mirror_add_left(store: &mut [u8], letter: u64) -> u64
 // Adds a letter at the right end.
 #[no_mangle]
 pub extern "C" fn mirror_add_right(store: &mut [u8], letter: u64) -> u64
-    ensures { λ r. ⌜ Promise (add atRight letter) (now (store .entry)) nothing r (now (store .exit)) nothing ⌝ }
+    ensures promise { λ r. ⌜ Promise (add atRight letter) (now (store .entry)) nothing r (now (store .exit)) nothing ⌝ }
+    ensures free { λ _. ⌜ FreeRow atRight letter (now (store .entry)) ⌝ }
 {
     change_calls::add_letter(store, Side::Right, letter)
 }

@@ -23,11 +23,11 @@ use Rattle.transitions.specs.Rows.{rowOf, freeRow}
 use Rattle.transitions.specs.Addition.{longestAfter, bringsIn, rowAfter}
 use Rattle.transitions.specs.Removal.{longestBefore, takesOut}
 use Rattle.transitions.proofs.Letters.{letter-byte, letter-at-end}
-use Rattle.transitions.proofs.Rows.{row-of-small, row-small, free-row, covers}
+use Rattle.transitions.proofs.Rows.{row-of-small, row-small, free-below, covers}
 use Rattle.outcome.specs.Reply.{Reply, Fits, accepted, refusedWith, answered, twosComplement}
 use Rattle.outcome.specs.Answers.{addedOf, addedReply, removedOf, removedReply, foundOf, foundReply, foundAnswer}
 use Rattle.outcome.specs.Outcome.{Lent, viewIn, acceptedOutcome, changed, refusedOutcome, unlessRefused, outcome, answerTo}
-use Rattle.outcome.proofs.Refusals.{number-other, add-room, row-used, spell-used, list-named}
+use Rattle.outcome.proofs.Refusals.{number-other, add-allowed, row-used, spell-used, list-named}
 
 -- ---- letters and places
 
@@ -105,7 +105,7 @@ module _ {b : Word} (g : Good b) where
   -- ---- the changes
 
   free-small : (e : End) (c : ℕ) (l : Lent) → refusal (ruleOf b) (viewIn b l) (add e c) ≡ 0 → freeRow b < 65536
-  free-small e c l z = row-small g (freeRow b) (free-row g (omega (arith, add-room b l e c z, letters-length (g .sized))) .1)
+  free-small e c l z = row-small g (freeRow b) (free-below g (omega (arith, add-allowed b l e c z .1, letters-length (g .sized))))
 
   added-fits : (e : End) (c : ℕ) (l : Lent) → refusal (ruleOf b) (viewIn b l) (add e c) ≡ 0 → Fits (addedReply (addedOf (bringsIn e c b) (rowAfter e c b)))
   unfolding addedReply rowAfter

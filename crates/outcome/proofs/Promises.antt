@@ -1,21 +1,23 @@
 -- How a host call keeps its promise: a store that is not good is refused with 3, a call that a row of the table of numbers names is refused with that
--- number, and any other is carried out. Rests on `Refusals`.
-use Prim.Native.Nat.{ℕ, zero, suc, _≤_}
+-- number, and any other is carried out. Last, the row that a new repeat takes is free. Rests on `Refusals`, and for the free row on `Rows` of transitions.
+use Prim.Native.Nat.{ℕ, zero, suc, _<_}
 use native.Mathlib.Omega.{arith}
-use mathlib.Core.Path.{_≡_, refl, sym, ap, _∙_, subst}
-use mathlib.Core.Bool.{false}
-use mathlib.Core.List.{[]}
-use lib.ListN.{length}
-use lib.Seq.{sets}
-use borrow.Author.Tests.{le-ltb}
-use Rattle.palindromes.specs.Word.{Word}
-use Rattle.palindromes.specs.Refusal.{Call, opening, refusal}
+use mathlib.Core.Path.{_≡_, refl, sym, _∙_, subst}
+use mathlib.Core.Bool.{Bool, true, false}
+use lib.Dec.{leb}
+use borrow.Author.Tests.{leb-true, leb-false}
+use Rattle.palindromes.specs.Word.{Word, isLetter}
+use Rattle.palindromes.specs.End.{End}
+use Rattle.palindromes.specs.Refusal.{Call, opening, add, refusal}
+use Rattle.store.specs.Layout.{capacityIn, sizeIn}
 use Rattle.store.specs.Good.{ruleOf, Good}
-use Rattle.outcome.specs.Reply.{packed, refusedWith, accepted}
+use Rattle.store.proofs.Sizes.{letters-length}
+use Rattle.transitions.proofs.Rows.{free-row}
+use Rattle.outcome.specs.Reply.{packed, refusedWith}
 use Rattle.outcome.specs.Outcome.{Lent, Outcome, viewIn, outcome, acceptedOutcome, refusedOutcome}
-use Rattle.outcome.specs.Promise.{nothing, Left, Promise, OpeningPromise}
+use Rattle.outcome.specs.Promise.{nothing, Left, Promise, OpeningPromise, FreeRow}
 use Rattle.outcome.specs.Verdict.{Verdict, damaged, judged}
-use Rattle.outcome.proofs.Refusals.{carried-out, refused-out}
+use Rattle.outcome.proofs.Refusals.{add-allowed, carried-out, refused-out}
 
 module _ (call : Call) (b : Word) (l : Lent) where
   broken : {r : ℕ} → (Good b → ⊥) → r ≡ packed (refusedWith 3) → Promise call b l r b l
@@ -68,3 +70,14 @@ module _ (k : ℕ) (b : Word) where
 
   pub opening-carried : {r : ℕ} {b′ : Word} → refusal (ruleOf b) (viewIn b nothing) (opening k) ≡ 0 → Left (acceptedOutcome (opening k) b nothing) r b′ nothing → OpeningPromise k b r b′
   opening-carried {r} {b′} e f = record { left = subst (λ (o : Outcome). Left o r b′ nothing) (sym (carried-out (opening k) b nothing e)) f }
+
+-- ---- an addition
+
+module _ (e : End) (c : ℕ) (b : Word) where
+  -- one that is carried out on a good store brings a letter, and finds room for it
+  pub add-cleared : Good b → refusal (ruleOf b) (viewIn b nothing) (add e c) ≡ 0 → (isLetter c ≡ true) × (sizeIn b < capacityIn b)
+  add-cleared g z = let a = add-allowed b nothing e c z in (a .0, omega (arith, a .1, letters-length (g .sized)))
+
+  -- so the row that a new repeat takes is free
+  pub free-taken : FreeRow e c b
+  free-taken g z t = free-row g (add-cleared g z .1)

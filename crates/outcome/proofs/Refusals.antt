@@ -190,13 +190,15 @@ module _ (b : Word) (l : Lent) where
 
   -- ---- what a call that is carried out tells of its arguments
 
-  pub add-room : (e : End) (c : ℕ) → refusal (ruleOf b) (viewIn b l) (add e c) ≡ 0 → length (lettersIn b) < capacityIn b
-  add-room e c z = go (isLetter c) (leb (capacityIn b) (length (lettersIn b))) refl refl
+  pub add-allowed : (e : End) (c : ℕ) → refusal (ruleOf b) (viewIn b l) (add e c) ≡ 0 → (isLetter c ≡ true) × (length (lettersIn b) < capacityIn b)
+  add-allowed e c z = (letter, space (leb (capacityIn b) (length (lettersIn b))) refl)
     where
-      go : (p q : Bool) → isLetter c ≡ p → leb (capacityIn b) (length (lettersIn b)) ≡ q → length (lettersIn b) < capacityIn b
-      go false q f h = absurd (omega (arith, add-letter e c f))
-      go true true f h = absurd (omega (arith, add-full e c f (leb-true (capacityIn b) (length (lettersIn b)) h)))
-      go true false f h = leb-false (capacityIn b) (length (lettersIn b)) h
+      letter : isLetter c ≡ true
+      letter = not-false-true (isLetter c) (λ h. omega (arith, add-letter e c h))
+
+      space : (t : Bool) → leb (capacityIn b) (length (lettersIn b)) ≡ t → length (lettersIn b) < capacityIn b
+      space true h = absurd (omega (arith, add-full e c letter (leb-true (capacityIn b) (length (lettersIn b)) h)))
+      space false h = leb-false (capacityIn b) (length (lettersIn b)) h
 
   pub row-used : (r : ℕ) → refusal (ruleOf b) (viewIn b l) (ask (theRow r)) ≡ 0 → usedIn b r ≡ true
   row-used r z = not-false-true (usedIn b r) (λ h. omega (arith, row-free r h))

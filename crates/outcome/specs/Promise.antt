@@ -1,11 +1,16 @@
 -- DEFINITIONS. What a host call promises: the contract of every exported function. Nothing here is proved.
 use Prim.Native.Nat.{ℕ}
 use mathlib.Core.Path.{_≡_}
+use mathlib.Core.Bool.{true}
 use mathlib.Core.List.{[]}
 use Rattle.palindromes.specs.Word.{Word}
-use Rattle.palindromes.specs.Refusal.{Call, opening}
+use Rattle.palindromes.specs.End.{End}
+use Rattle.palindromes.specs.Refusal.{Call, opening, add, refusal}
+use Rattle.store.specs.Good.{ruleOf, Good}
+use Rattle.transitions.specs.Rows.{freeRow, Free}
+use Rattle.transitions.specs.Addition.{bringsIn}
 use Rattle.outcome.specs.Reply.{packed}
-use Rattle.outcome.specs.Outcome.{Lent, Outcome, outcome, Answers}
+use Rattle.outcome.specs.Outcome.{Lent, Outcome, viewIn, outcome, Answers}
 
 -- the buffers that are lent to a call that writes text: 01 "scratch" and "buffer", each empty where the call takes none
 abbrev pub lending : Word → Word → Lent
@@ -30,3 +35,8 @@ pub record Promise (call : Call) (b : Word) (l : Lent) (r : ℕ) (b′ : Word) (
 -- the same for an opening, which asks nothing of the store's bytes
 pub record OpeningPromise (k : ℕ) (b : Word) (r : ℕ) (b′ : Word) : Type 0 where
   pub left : Left (outcome (opening k) b nothing) r b′ nothing
+
+-- 01 "the free row that a new repeat takes: one of 2 to capacity + 1 that no other repeat has": where an addition to a good store is carried out and brings in a repeat,
+-- the row that it answers is such a one before the call
+abbrev pub FreeRow : End → ℕ → Word → Type 0
+FreeRow e c b = Good b → refusal (ruleOf b) (viewIn b nothing) (add e c) ≡ 0 → bringsIn e c b ≡ true → Free b (freeRow b)

@@ -1,6 +1,4 @@
 // The record that a text's letters make, and its list.
-use changes::addition;
-use changes::opening;
 use questions::list;
 use store::letters::Side;
 ghost use mathlib.Core.Path.{_≡_};

@@ -24,7 +24,7 @@ use Rattle.transitions.specs.Rows.{rowOf, freeRow}
 use Rattle.transitions.specs.Opening.{usedBytes}
 use Rattle.transitions.specs.Addition.{longestAfter, bringsIn, rowAfter, hangWrites, settleWrites, additionWrites, afterAddition}
 use Rattle.transitions.proofs.Letters.{letter-byte}
-use Rattle.transitions.proofs.Rows.{row-fits, free-row, row-of-small, size-small, count-small, length-small, stored-length}
+use Rattle.transitions.proofs.Rows.{row-fits, free-row, free-below, row-of-small, size-small, count-small, length-small, stored-length}
 use Rattle.transitions.specs.Bytes.{Bytes}
 use Rattle.transitions.proofs.AddedRuns.{Misses, Puts, look-misses, misses-after, look-puts, puts-after, bytes-sets, bytes-writes}
 use Rattle.transitions.proofs.AddedWord.{Accepted, innerRow, linkRow, lastLetter, letters-after, length-after, longest-fits, longest-found, inner-found, last-letter}
@@ -59,7 +59,7 @@ module _ {e : End} {c : ℕ} {b : Word} (a : Accepted e c b) where
   row-after-below = go (bringsIn e c b) refl
     where
       go : (k : Bool) → bringsIn e c b ≡ k → cond k (freeRow b) (rowOf b (spelt (longestAfter e c b))) < capacityIn b + 2
-      go true k = free-row (a .good) (a .room) .1
+      go true k = free-below (a .good) (a .room)
       go false k = used-below b (rowOf b (spelt (longestAfter e c b))) (longest-found a k .0)
 
   -- and so is the row that the other end gets
@@ -80,7 +80,7 @@ module _ {e : End} {c : ℕ} {b : Word} (a : Accepted e c b) where
   run-below = go (bringsIn e c b) refl
     where
       go : (k : Bool) → bringsIn e c b ≡ k → RowsBelow (capacityIn b + 2) (run k e c b)
-      go true k = omega (arith, free-row (a .good) (a .room), used-below b (innerRow e c b) (inner-found a k .0), edge-high (lastLetter e c b), end-cells e, end-cells (other e))
+      go true k = omega (arith, free-row (a .good) (a .room) .low, free-below (a .good) (a .room), used-below b (innerRow e c b) (inner-found a k .0), edge-high (lastLetter e c b), end-cells e, end-cells (other e))
       go false k = omega (arith, end-cells e, end-cells (other e))
 
   -- what every addition writes fits a cell
@@ -97,7 +97,8 @@ module _ {e : End} {c : ℕ} {b : Word} (a : Accepted e c b) where
           omega (
             arith,
             rows-fit,
-            free-row (a .good) (a .room),
+            free-row (a .good) (a .room) .low,
+            free-below (a .good) (a .room),
             used-below b (innerRow e c b) (inner-found a k .0),
             row-of-small (a .good) (linkOf (ruleOf b) (spelt (longestAfter e c b))),
             length-small (a .good) (longestAfter e c b) (longest-fits a),
@@ -196,25 +197,25 @@ module _ {e : End} {c : ℕ} {b : Word} (a : Accepted e c b) where
     unfolding hangWrites settleWrites
     length-new =
         let q = free-row (a .good) (a .room) in
-        new-put (freeRow b) 0 (suc (length (longestAfter e c b))) (q .1) (omega arith) (inl (refl, refl, stored-length (spelt (longestAfter e c b)), omega (arith, edge-low (lastLetter e c b))))
+        new-put (freeRow b) 0 (suc (length (longestAfter e c b))) (free-below (a .good) (a .room)) (omega arith) (inl (refl, refl, stored-length (spelt (longestAfter e c b)), omega (arith, edge-low (lastLetter e c b))))
 
     pub link-new : linkIn (afterAddition e c b) (freeRow b) ≡ linkRow e c b
     unfolding linkIn hangWrites settleWrites
     link-new =
         let q = free-row (a .good) (a .room) in
-        new-put (freeRow b) 1 (linkRow e c b) (q .1) (omega arith) (inr (inl (refl, refl, refl, omega (arith, edge-low (lastLetter e c b)))))
+        new-put (freeRow b) 1 (linkRow e c b) (free-below (a .good) (a .room)) (omega arith) (inr (inl (refl, refl, refl, omega (arith, edge-low (lastLetter e c b)))))
 
     pub inner-new : innerIn (afterAddition e c b) (freeRow b) ≡ innerRow e c b
     unfolding innerIn hangWrites settleWrites
     inner-new =
         let q = free-row (a .good) (a .room) in
-        new-put (freeRow b) 2 (innerRow e c b) (q .1) (omega arith) (inr (inr (inl (refl, refl, refl, omega (arith, edge-low (lastLetter e c b))))))
+        new-put (freeRow b) 2 (innerRow e c b) (free-below (a .good) (a .room)) (omega arith) (inr (inr (inl (refl, refl, refl, omega (arith, edge-low (lastLetter e c b))))))
 
     pub outer-new : outerIn (afterAddition e c b) (freeRow b) ≡ lastLetter e c b
     unfolding outerIn hangWrites settleWrites
     outer-new =
         let q = free-row (a .good) (a .room) in
-        new-put (freeRow b) 3 (lastLetter e c b) (q .1) (omega arith) (inr (inr (inr (inl (refl, refl, refl, omega (arith, edge-low (lastLetter e c b)))))))
+        new-put (freeRow b) 3 (lastLetter e c b) (free-below (a .good) (a .room)) (omega arith) (inr (inr (inr (inl (refl, refl, refl, omega (arith, edge-low (lastLetter e c b)))))))
 
     -- the edge that leads to it
     pub edge-new : edgeIn (afterAddition e c b) (innerRow e c b) (lastLetter e c b) ≡ freeRow b

@@ -26,7 +26,7 @@ use Rattle.store.proofs.Edges.{edge-low, edge-high, edge-same}
 use Rattle.store.proofs.Sizes.{rule-inverse, used-below}
 use Rattle.transitions.specs.Rows.{freeRow}
 use Rattle.transitions.specs.Addition.{longestAfter, bringsIn, afterAddition}
-use Rattle.transitions.proofs.Rows.{covers, edges-end, count-most, used-root, used-is, used-rank, free-row}
+use Rattle.transitions.proofs.Rows.{covers, edges-end, count-most, used-root, used-is, used-rank, free-row, free-below}
 use Rattle.transitions.proofs.AddedWord.{Accepted, innerRow, lastLetter, length-after, stood, one-more, inner-found, link-found, last-letter, word-around}
 use Rattle.transitions.proofs.AddedSame.{SameRows, covers-rows, edges-end-rows}
 use Rattle.transitions.proofs.AddedBytes.{capacity-after, reading-after, rank-after, count-new, count-old, row-kept, length-new, link-new, inner-new, outer-new, edge-new, letters-are}
@@ -74,7 +74,7 @@ module _ {e : End} {c : ℕ} {b : Word} (a : Accepted e c b) where
   pub used-new : bringsIn e c b ≡ true → usedIn (afterAddition e c b) (freeRow b) ≡ true
   used-new k =
       let q = free-row (a .good) (a .room) in
-      rank-used-after (freeRow b) (q .0) (q .1) (omega (arith, free-rank, count-new a k))
+      rank-used-after (freeRow b) (q .low) (free-below (a .good) (a .room)) (omega (arith, free-rank, count-new a k))
 
   -- and nothing else
   pub used-rows : (r : ℕ) → usedIn (afterAddition e c b) r ≡ true → (usedIn b r ≡ true) ⊎ ((bringsIn e c b ≡ true) × (r ≡ freeRow b))
@@ -114,7 +114,7 @@ module _ {e : End} {c : ℕ} {b : Word} (a : Accepted e c b) where
 
   -- a used row is not the first free one
   not-free : (r : ℕ) → usedIn b r ≡ true → freeRow b ≡ r → ⊥
-  not-free r u e = false-not-true (free-row (a .good) (a .room) .2) (rw e u)
+  not-free r u e = false-not-true (free-row (a .good) (a .room) .unused) (rw e u)
 
   -- so its length, link, inner row and outer letter stay
   fields-kept : (r f : ℕ) → usedIn b r ≡ true → f < 4 → cell (afterAddition e c b) r f ≡ cell b r f
@@ -129,9 +129,9 @@ module _ {e : End} {c : ℕ} {b : Word} (a : Accepted e c b) where
   edges-new : (d : ℕ) → edgeIn (afterAddition e c b) (freeRow b) d ≡ 0
   unfolding edgeIn
   edges-new d =
-      let q = free-row (a .good) (a .room) in
-      row-kept a (freeRow b) (edgeCell d) (q .1) (edge-high d) (λ k. (λ p i. omega (arith, edge-low d), λ p i. not-free (innerRow e c b) (inner-found a k .0) (sym p)))
-      ∙ a .good .free-rows (freeRow b) (edgeCell d) (q .1) (q .2) (edge-high d)
+      let l = free-below (a .good) (a .room) in
+      row-kept a (freeRow b) (edgeCell d) l (edge-high d) (λ k. (λ p i. omega (arith, edge-low d), λ p i. not-free (innerRow e c b) (inner-found a k .0) (sym p)))
+      ∙ a .good .free-rows (freeRow b) (edgeCell d) l (free-row (a .good) (a .room) .unused) (edge-high d)
 
   -- the same, field by field
   lengths-kept : (r : ℕ) → usedIn b r ≡ true → lengthIn (afterAddition e c b) r ≡ lengthIn b r

@@ -7,7 +7,7 @@ use native.Mathlib.Omega.{arith}
 use mathlib.Core.Path.{_≡_, refl, ap, _∙_}
 use mathlib.Core.Bool.{true, false, cond, _&&_, and-false}
 use mathlib.Core.Logic.{_⊎_, inl, inr}
-use mathlib.Core.List.{List, [], _∷_, _++_}
+use mathlib.Core.List.{[], _∷_, _++_}
 use lib.Dec.{eqb}
 use lib.ListN.{length, getD, drop, take, replicate, length-replicate, getD-replicate, List·getD-append}
 use lib.IntN.{pos, predℤ}
@@ -22,11 +22,11 @@ use Rattle.palindromes.proofs.Tests.{not-true-false, false-not-true}
 use Rattle.eertree.proofs.Covers.{covers-shows}
 use Rattle.eertree.proofs.Nodes.{root-zero, root-one}
 use Rattle.store.specs.Layout.{cellAt, cell, capacityIn, sizeIn, countIn, readingIn, endRow, lengthIn, linkIn, innerIn, outerIn, edgeCell, edgeIn, orderIn, rankIn, usedIn, lettersAt, lettersIn}
-use Rattle.store.specs.Writes.{Write, write}
+use Rattle.store.specs.Writes.{write}
 use Rattle.store.specs.Good.{ruleOf, tableIn, nodeIn, Sized, OrderIs, RankIs, EndIs, Good}
 use Rattle.store.proofs.Writes.{Fitting, look, RowsBelow, cell-writes, length-writes, drop-writes, getD-writes}
 use Rattle.store.proofs.Edges.{edge-low, edge-high}
-use Rattle.transitions.specs.Opening.{usedBytes, orderWrites, openingWrites, opened}
+use Rattle.transitions.specs.Opening.{usedBytes, orderWrites, headWrites, openingWrites, opened}
 use Rattle.transitions.proofs.Rows.{used-root, used-rank}
 use Rattle.transitions.proofs.Runs.{look-append, fitting-append, below-append}
 use Rattle.transitions.proofs.Start.{Roots, roots-cover, roots-end}
@@ -80,10 +80,6 @@ order-below (suc n) m h =
     (omega arith, omega arith, (omega arith, omega arith, tt))
 
 -- ---- the bytes
-
--- the writes before the order: the capacity, the empty string's row and both ends at it
-abbrev headWrites : ℕ → List Write
-headWrites k = write 0 8 k ∷ write 1 0 1 ∷ write 1 8 1 ∷ write 1 9 1 ∷ []
 
 -- the store with a zero in every byte that it uses
 abbrev cleared : ℕ → Word → Word

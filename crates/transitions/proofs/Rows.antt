@@ -13,12 +13,13 @@ use lib.Dec.{ltb}
 use lib.ListN.{length, getD}
 use lib.Seq.{getD-take, getD-drop}
 use borrow.Author.Tests.{ltb-true, ltb-false, lt-ltb, le-ltb}
-use Rattle.palindromes.specs.Word.{Word, isLetter}
+use Rattle.palindromes.specs.Word.{Word, isLetter, member}
+use Rattle.palindromes.specs.Record.{palindromes}
 use Rattle.palindromes.specs.End.{End, atRight, letterAt, longestAt}
 use Rattle.palindromes.specs.Node.{Node, imaginary, spelt, lengthOf, linkOf, innerOf, around}
 use Rattle.palindromes.specs.Refusal.{storeSize}
 use Rattle.palindromes.proofs.Tests.{both-true, both-are, false-not-true, same-true, same-is}
-use Rattle.palindromes.proofs.Palindromes.{count-length}
+use Rattle.palindromes.proofs.Palindromes.{palindromes-true, count-length}
 use Rattle.palindromes.proofs.Growth.{letter-around}
 use Rattle.eertree.specs.Covers.{NodeOf, Covers, EdgesEnd}
 use Rattle.eertree.proofs.Covers.{node-is, shows-covers, shows-edges-end}
@@ -27,7 +28,7 @@ use Rattle.store.specs.Layout.{cell, capacityIn, sizeIn, countIn, endRow, lengt
 use Rattle.store.specs.Writes.{stored}
 use Rattle.store.specs.Good.{ruleOf, tableIn, nodeIn, Sized, Good}
 use Rattle.store.proofs.Sizes.{letters-length, used-below}
-use Rattle.transitions.specs.Rows.{sameNode, leastBelow, rowOf, freeRow}
+use Rattle.transitions.specs.Rows.{sameNode, leastBelow, rowOf, freeRow, Free}
 use Rattle.transitions.proofs.Letters.{letters-piece, letter-at-end}
 
 -- ---- the least number that passes a test
@@ -216,12 +217,23 @@ module _ {b : Word} (g : Good b) where
 
   -- ---- the next free row
 
-  -- while the store is not full there is one: a row of the table that is no root and not used
-  pub free-row : sizeIn b < capacityIn b → (2 ≤ freeRow b) × (freeRow b < capacityIn b + 2) × (usedIn b (freeRow b) ≡ false)
+  -- a row that is not used holds no repeat
+  unused-none : (r : ℕ) → usedIn b r ≡ false → (w : Word) → member w (palindromes (ruleOf b) (lettersIn b)) ≡ true → rowOf b (spelt w) ≡ r → ⊥
+  unused-none r u w m e =
+      let p = palindromes-true (ruleOf b) w (lettersIn b) m in
+      false-not-true (rw e u) (row-of-node (spelt w) (p .0 .symmetric, p .1) .0)
+
+  -- while the store is not full there is one: a row of the table that is no root, and that no repeat has
+  pub free-row : sizeIn b < capacityIn b → Free b (freeRow b)
   unfolding freeRow
   free-row h =
       let o = g .order (countIn b) (omega (arith, count-most)) in
-      (o .low, o .high, used-is b (orderIn b (countIn b)) (o .low) (o .high) ∙ le-ltb (rankIn b (orderIn b (countIn b))) (countIn b) (omega (arith, o .back)))
+      let u : usedIn b (orderIn b (countIn b)) ≡ false =
+      used-is b (orderIn b (countIn b)) (o .low) (o .high) ∙ le-ltb (rankIn b (orderIn b (countIn b))) (countIn b) (omega (arith, o .back)) in
+      record { low = o .low; high = omega (arith, o .high); unused = u; of-none = unused-none (orderIn b (countIn b)) u }
+
+  pub free-below : sizeIn b < capacityIn b → freeRow b < capacityIn b + 2
+  free-below h = omega (arith, free-row h .high)
 
   -- ---- what is written fits a cell
 

@@ -60,7 +60,7 @@ module _ (e : End) (c : ℕ) {b : Word} (g : Good b) (letter : isLetter c ≡ tr
       still n = went .other-row r λ t p. let k = sym takes-back ∙ t in n k (p ∙ row-back k)
 
       go : (t : Bool) → bringsIn e c b ≡ t → Dec (r ≡ freeRow b) → usedIn b r ≡ usedIn (afterRemoval e (afterAddition e c b)) r
-      go true k (yes p) = cc (free-row g room .2, went .gone-row (takes-back ∙ k), row-back k)
+      go true k (yes p) = cc (free-row g room .unused, went .gone-row (takes-back ∙ k), row-back k)
       go true k (no p) = cc (still (λ t. p), came .used-is r, ne-eqb r (freeRow b) p)
       go false k d = cc (still (λ t. absurd (false-not-true k t)), came .used-is r)
 

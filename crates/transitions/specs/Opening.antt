@@ -1,11 +1,12 @@
 -- DEFINITIONS. The bytes after an accepted opening. Nothing here is proved.
 use Prim.Native.Nat.{ℕ, zero, suc, _+_}
 use mathlib.Core.List.{List, [], _∷_, _++_}
+use lib.IntN.{pos, negsuc}
 use lib.ListN.{replicate}
 use lib.Seq.{sets}
 use Rattle.palindromes.specs.Word.{Word}
 use Rattle.store.specs.Layout.{lettersAt}
-use Rattle.store.specs.Writes.{Write, write, writes}
+use Rattle.store.specs.Writes.{Write, write, writes, stored}
 
 -- how many bytes a store of this capacity uses
 abbrev pub usedBytes : ℕ → ℕ
@@ -16,9 +17,13 @@ unfoldable pub orderWrites : ℕ → List Write
 orderWrites zero = []
 orderWrites (suc n) = orderWrites n ++ (write (n + 2) 8 (n + 2) ∷ write (n + 2) 9 n ∷ [])
 
--- 01 "leaves an empty record that is full at exactly that many": the capacity, the empty string's row and both ends at it
+-- 01 "leaves an empty record that is full at exactly that many", "Row 0 is the imaginary string, whose length is the signed number -1. Row 1 is the empty string, length 0":
+-- the capacity, the lengths of rows 0 and 1, and both ends at the empty string
+abbrev pub headWrites : ℕ → List Write
+headWrites capacity = write 0 8 capacity ∷ write 0 0 (stored (negsuc 0)) ∷ write 1 0 (stored (pos 0)) ∷ write 1 8 1 ∷ write 1 9 1 ∷ []
+
 unfoldable pub openingWrites : ℕ → List Write
-openingWrites capacity = write 0 8 capacity ∷ write 1 0 1 ∷ write 1 8 1 ∷ write 1 9 1 ∷ orderWrites capacity
+openingWrites capacity = headWrites capacity ++ orderWrites capacity
 
 -- every byte that the store uses is set, whatever it held, and no other
 unfoldable pub opened : ℕ → Word → Word

@@ -14,13 +14,13 @@ remove-requires c κs = let a = removable _ _ _ (c .before .before .judge-remove
 answer-removed-requires : tie.Need-answer-removed-requires
 answer-removed-requires c κs =
     let called = c .before .before in
-    removed-fits _ _ _ (removable _ _ _ (called .before .before .before .judge-remove .ensures) (called .before .before .if1 .left)) (called .remove .ensures .1)
+    removed-fits _ _ _ (removable _ _ _ (called .before .before .before .judge-remove .ensures) (called .before .before .if1 .left)) (called .remove .ensures .answer)
 
 returns-2 : tie.Need-returns-2
 returns-2 c =
     let called = c .before .before .before in
     removed _ _ _ (removable _ _ _ (called .before .before .before .judge-remove .ensures) (called .before .before .if1 .left))
-    (called .remove .ensures .1) (c .answer-removed .ensures) (called .remove .ensures .0)
+    (called .remove .ensures .answer) (c .answer-removed .ensures) (called .remove .ensures .store)
 
 pub remove-letter-spec : {M : Type 1} → statement M
 remove-letter-spec =

@@ -33,7 +33,7 @@ loop-again c =
     let s = c .before .before .before .before .before .before .before .before .before in
     let k = c .before .before .before .before .before .before .loop in
     let h = c .before .before .before .before .before .loop-test .taken in
-    let e = c .before .before .add .ensures .0 in (
+    let e = c .before .before .add .ensures .store in (
       rw e (filled-more _ _ _ (k .inv .0) h (s .pre .1 .0) (s .pre .1 .1)),
       omega arith,
       ap length e ∙ addition atRight (k .inv .0 .good) (next-letter _ _ _ (k .inv .0) h (s .pre .1 .0) (s .pre .1 .1)) (next-room _ _ _ (k .inv .0) h (s .pre .1 .0) (s .pre .1 .1)) .length-same ∙ k .inv .2,

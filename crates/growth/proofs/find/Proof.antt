@@ -1,0 +1,93 @@
+-- `growth::find` looks at the edge of the row that the walk met: it tells whether the palindrome is new. Assumes nothing.
+use Prim.Native.Nat.{ℕ}
+use mathlib.Core.Path.{_≡_, sym, ap, _∙_, subst}
+use mathlib.Core.Bool.{true}
+use borrow.Author.Needs.{needs}
+use Rattle.palindromes.specs.Word.{Word, isLetter}
+use Rattle.store.specs.Good.{ruleIn, ruleOf}
+use Rattle.store.specs.Side.{endOf}
+use Rattle.walk.specs.declared.Walked.{Walked}
+use Rattle.walk.specs.declared.Walked.the-variants.{At}
+use Rattle.walk.specs.Replay.{letterTowards}
+use Rattle.walk.proofs.Stores.{header-fits}
+use Rattle.transitions.proofs.Rows.{used-fits}
+use Rattle.growth.specs.Steps.{Met, RowFor}
+use Rattle.growth.proofs.Growing.{letter-read, longest-met, found-new, found-old, found-none}
+use Rattle.growth.proofs.find.Statement.{statement}
+use Rattle.growth.proofs.find.Tie as tie
+
+-- the entry from where the letter was read, that place from where the walk met a row, and this place from where the row's edge was read
+abbrev from-read : tie.After-read-as → tie.Start
+from-read c = c .before .before .before
+
+abbrev at-read : tie.After-met → tie.After-read-as
+at-read c = c .before .before .before
+
+abbrev at-met : tie.After-edge-of → tie.After-met
+at-met c = c .before .before
+
+-- the letter that is walked for
+same : (c : tie.After-read-as) → c .read-as .result ≡ letterTowards (ruleOf (from-read c .args .b .now)) (endOf (from-read c .args .side)) (from-read c .args .c)
+same c = c .read-as .ensures ∙ ap (λ (r : ℕ). letterTowards (ruleIn r) (endOf (from-read c .args .side)) (from-read c .args .c)) (c .before .reading .ensures .0)
+
+is-letter : (c : tie.After-read-as) → isLetter (c .read-as .result) ≡ true
+is-letter c =
+    let s = from-read c in
+    letter-read (s .args .b .now) (endOf (s .args .side)) (s .args .c) (c .read-as .result) (same c) (s .pre .1)
+
+-- the row that the walk met
+abbrev row : tie.After-met → ℕ
+row c = c .met .given .0 .0
+
+abbrev MetAt : tie.After-read-as → Walked → Type 0
+MetAt c o = Met (from-read c .args .b .now) (endOf (from-read c .args .side)) (c .read-as .result) o
+
+met-row : (c : tie.After-met) → MetAt (at-read c) (At (row c))
+met-row c = subst (λ (o : Walked). MetAt (at-read c) o) (c .met .given .1) (c .before .before .meet .ensures)
+
+reading-requires : tie.Need-reading-requires
+reading-requires c κs = header-fits (c .before .pre .0 .sized)
+
+edge-of-requires : tie.Need-edge-of-requires
+edge-of-requires c κs =
+    let m = c .before in
+    used-fits (from-read (at-read m) .pre .0) (row m) (met-row m .0)
+
+row-around-requires : tie.Need-row-around-requires
+row-around-requires c κs =
+    let m = at-met (c .before) in
+    (from-read (at-read m) .pre .0, (is-letter (at-read m), met-row m))
+
+returns : tie.Need-returns
+returns c =
+    let edge = c .before .before in
+    let m = at-met edge in
+    let d = at-read m in
+    let s = from-read d in
+    let e = endOf (s .args .side) in
+    let longest = longest-met (s .pre .0) e (s .args .c) (d .read-as .result) (same d) (row m) (met-row m) in
+    record {
+      new = found-new (s .pre .0) e (s .args .c) (d .read-as .result) (same d) (row m) (is-letter d) (met-row m) (sym (edge .edge-of .ensures .0) ∙ c .before .if1 .taken);
+      row-for = subst (λ (v : Word). RowFor (s .args .b .now) v (c .row-around .result)) (sym longest) (c .row-around .ensures);
+    }
+
+returns-2 : tie.Need-returns-2
+returns-2 c =
+    let edge = c .before .edge-of .ensures .0 in
+    let m = at-met (c .before) in
+    let d = at-read m in
+    let s = from-read d in
+    rw edge (found-old (s .pre .0) (endOf (s .args .side)) (s .args .c) (d .read-as .result) (same d) (row m) (is-letter d) (met-row m) λ z. c .if1 .left (edge ∙ z))
+
+returns-3 : tie.Need-returns-3
+returns-3 c =
+    let d = c .before .before .before in
+    let s = from-read d in
+    found-none (s .pre .0) (endOf (s .args .side)) (s .args .c) (d .read-as .result) (same d)
+    (subst (λ (o : Walked). MetAt d o) (c .enum-told .given .1) (c .before .before .meet .ensures))
+
+pub find-spec : {M : Type 1} → statement M
+find-spec =
+    tie.close
+    (tie.spec reading-requires (λ c κs. search needs) (λ c κs. search needs) (λ c. search needs) edge-of-requires row-around-requires returns
+    (λ c. search needs) returns-2 returns-3)

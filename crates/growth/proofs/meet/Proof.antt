@@ -1,0 +1,32 @@
+-- `growth::meet` walks from the row of the end over all the letters. Assumes nothing.
+use native.Mathlib.Omega.{arith}
+use borrow.Author.Needs.{needs}
+use Prim.Native.Nat.{ℕ}
+use Rattle.palindromes.specs.Word.{Word}
+use Rattle.store.specs.Layout.{endRow}
+use Rattle.store.specs.Side.{endOf}
+use Rattle.walk.specs.Walk.{Meets}
+use Rattle.walk.proofs.Stores.{header-fits, framed-within}
+use Rattle.walk.proofs.Reading.{good-chain}
+use Rattle.growth.proofs.Growing.{framed, met}
+use Rattle.growth.proofs.meet.Statement.{statement}
+use Rattle.growth.proofs.meet.Tie as tie
+
+end-row-requires : tie.Need-end-row-requires
+end-row-requires c κs = header-fits (c .before .before .pre .sized)
+
+walk-requires : tie.Need-walk-requires
+walk-requires c κs =
+    let g = c .before .before .before .pre in
+    let f = c .before .frame-of in
+    let e = endOf (c .before .before .before .args .side) in
+    (framed-within (f .ensures) (g .sized) (f .result .n) (omega (arith, f .ensures .size-is)), rw (c .end-row .ensures .0) (good-chain g (endRow (c .before .before .before .args .b .now) e) (g .ends e .used)))
+
+returns : tie.Need-returns
+returns c =
+    let a = c .before .before .before .before .args in
+    met (c .before .before .before .before .pre) (endOf (a .side)) (a .d) (c .walk .result)
+    (framed (c .before .before .frame-of .ensures) (a .side) (a .d) (c .before .end-row .ensures .0) (λ (t : Word) (k want start : ℕ). Meets (a .b .now) t k (a .d) want start (c .walk .result)) (c .walk .ensures))
+
+pub meet-spec : {M : Type 1} → statement M
+meet-spec = tie.close (tie.spec (λ c κs. search needs) end-row-requires walk-requires returns)

@@ -1,0 +1,47 @@
+// Opening: an empty record of a given capacity, whatever the bytes held.
+use store::bytes;
+use store::header;
+use store::letters::Side;
+use store::rows;
+use store::rows::Row;
+ghost use mathlib.Core.Path.{_≡_};
+ghost use Prim.Native.Nat.{_+_, _*_, _≤_};
+ghost use lib.ListN.{length};
+ghost use Rattle.palindromes.specs.Refusal.{storeSize};
+ghost use Rattle.store.specs.Writes.{writes};
+ghost use Rattle.transitions.specs.Opening.{orderWrites, headWrites, opened};
+
+// Lists the rows from 2 on in rising order, and gives each its rank.
+fn number(b: &mut [u8], capacity: usize)
+    requires { ⌜ 24 * (capacity + 2) ≤ length (now b) ⌝ }
+    ensures { λ _. ⌜ now (b .exit) ≡ writes (now (b .entry)) (orderWrites capacity) ⌝ }
+{
+    let mut k = 0;
+    while k < capacity {
+        rows::put_order(b, k, k + 2);
+        rows::put_rank(b, k + 2, k);
+        k += 1;
+    }
+}
+
+// Puts the capacity, the lengths of both roots, and both ends at the empty string.
+fn head(b: &mut [u8], capacity: usize)
+    requires { ⌜ 48 ≤ length (now b) ⌝ }
+    ensures { λ _. ⌜ now (b .exit) ≡ writes (now (b .entry)) (headWrites capacity) ⌝ }
+{
+    header::set_capacity(b, capacity);
+    rows::put_length(b, Row::IMAGINARY, Row::IMAGINARY_LENGTH);
+    rows::put_length(b, Row::EMPTY, Row::EMPTY_LENGTH);
+    header::set_end_row(b, Side::Left, Row::EMPTY);
+    header::set_end_row(b, Side::Right, Row::EMPTY);
+}
+
+// Leaves an empty record that is full at exactly `capacity` letters.
+pub fn open(b: &mut [u8], capacity: usize)
+    requires { ⌜ (1 ≤ capacity) × (capacity ≤ 1024) × (storeSize capacity ≤ length (now b)) ⌝ }
+    ensures { λ _. ⌜ now (b .exit) ≡ opened capacity (now (b .entry)) ⌝ }
+{
+    bytes::clear(b, 24 * (capacity + 2) + capacity);
+    head(b, capacity);
+    number(b, capacity);
+}

@@ -1,0 +1,87 @@
+// A removal: the letters that are left are read again, which tells whether the longest palindrome at
+// the end still stands and which is the longest there without the letter.
+use outcome::answers::Removed;
+use store::header;
+use store::letters;
+use store::letters::Side;
+use store::rows;
+use walk::frame;
+use walk::replay;
+ghost use mathlib.Core.Path.{_≡_};
+ghost use mathlib.Core.Bool.{true, false};
+ghost use Prim.Native.Nat.{_<_};
+ghost use Rattle.store.specs.Good.{Good};
+ghost use Rattle.store.specs.Layout.{sizeIn};
+ghost use Rattle.store.specs.Side.{endOf};
+ghost use Rattle.transitions.specs.Removal.{afterRemoval};
+ghost use Rattle.removal.specs.Steps.{Parts, Removes};
+
+// What a removal finds before it writes: the letter, the row of the longest palindrome at its end,
+// whether that stands without the letter, and the rows of both ends without it.
+struct Parting {
+    pub letter: u8,
+    pub row: usize,
+    pub met: bool,
+    pub last: usize,
+    pub opposite: usize,
+}
+
+// What the removal at a side of a record that is not empty finds.
+fn part(b: &[u8], side: Side) -> Parting
+    requires { ⌜ Good (now b) ⌝ }
+    requires { ⌜ 0 < sizeIn (now b) ⌝ }
+    ensures { λ r. ⌜ Parts (now (b .entry)) (endOf side) r ⌝ }
+{
+    let f = frame::frame_of(b);
+    let row = header::end_row(b, side);
+    let found = replay::survey(b, side, f.n - 1, row);
+    let longest = rows::length_of(b, row);
+    let link = rows::link_of(b, row);
+    Parting {
+        letter: letters::letter_at(b, f.base, f.n, side),
+        row,
+        met: found.met,
+        last: found.last,
+        opposite: ends::across(b, side, longest, f.n, link),
+    }
+}
+
+// Removes the letter at a side, with the palindrome that stood nowhere else.
+fn take_out(b: &mut [u8], side: Side, p: Parting)
+    requires { ⌜ Good (now b) ⌝ }
+    requires { ⌜ 0 < sizeIn (now b) ⌝ }
+    requires { ⌜ Parts (now b) (endOf side) p × (p .met ≡ false) ⌝ }
+    ensures { λ _. ⌜ now (b .exit) ≡ afterRemoval (endOf side) (now (b .entry)) ⌝ }
+{
+    let f = frame::frame_of(b);
+    letters::leave(b, f.base, f.n, side);
+    freeing::free(b, p.row);
+    ends::settle(b, side, f.n - 1, p.last, p.opposite);
+}
+
+// Removes the letter at a side, where every palindrome stays.
+fn leave_rows(b: &mut [u8], side: Side, p: Parting)
+    requires { ⌜ Good (now b) ⌝ }
+    requires { ⌜ 0 < sizeIn (now b) ⌝ }
+    requires { ⌜ Parts (now b) (endOf side) p × (p .met ≡ true) ⌝ }
+    ensures { λ _. ⌜ now (b .exit) ≡ afterRemoval (endOf side) (now (b .entry)) ⌝ }
+{
+    let f = frame::frame_of(b);
+    letters::leave(b, f.base, f.n, side);
+    ends::settle(b, side, f.n - 1, p.last, p.opposite);
+}
+
+// Removes the letter at a side of a record that is not empty.
+pub fn remove(b: &mut [u8], side: Side) -> Removed
+    requires { ⌜ Good (now b) ⌝ }
+    requires { ⌜ 0 < sizeIn (now b) ⌝ }
+    ensures { λ r. ⌜ Removes (endOf side) (now (b .entry)) (now (b .exit)) r ⌝ }
+{
+    let p = part(b, side);
+    if p.met {
+        leave_rows(b, side, p);
+        return Removed::Kept(p.letter);
+    }
+    take_out(b, side, p);
+    Removed::Gone(p.letter, p.row)
+}
