@@ -2,15 +2,15 @@
 use borrow.Author.Needs.{needs}
 use Rattle.store.specs.Layout.{lettersIn}
 use Rattle.store.specs.Good.{Good}
-use Rattle.audit.specs.Parts.{HeaderRight}
-use Rattle.audit.specs.Tour.{Toured}
-use Rattle.audit.specs.Rows.{RowsRight}
-use Rattle.audit.specs.declared.tour.Visit.the-variants.{Next, Broken}
-use Rattle.audit.proofs.Decided.{holds, fails, carried}
-use Rattle.audit.proofs.Parts.{good-roots, good-order}
-use Rattle.audit.proofs.Marks.{blank}
-use Rattle.audit.proofs.Visit.{led}
-use Rattle.audit.proofs.Rows.{good-rows, good-ends}
+use Rattle.audit_fixed.specs.Parts.{HeaderRight}
+use Rattle.audit_tour.specs.Tour.{Toured}
+use Rattle.audit_rows.specs.Rows.{RowsRight}
+use Rattle.audit_tour.specs.declared.Visit.the-variants.{Next, Broken}
+use Rattle.audit_fixed.proofs.Decided.{holds, fails, carried}
+use Rattle.audit_fixed.proofs.Parts.{good-roots, good-order}
+use Rattle.audit_tour.proofs.Marks.{blank}
+use Rattle.audit_tour.proofs.Letter.{led}
+use Rattle.audit_rows.proofs.Rows.{good-rows, good-ends}
 use Rattle.audit.proofs.Whole.{passed-good}
 use Rattle.audit.proofs.is_good.Statement.{statement}
 use Rattle.audit.proofs.is_good.Tie as tie

@@ -4,7 +4,7 @@ use native.Mathlib.Omega.{arith}
 use borrow.Author.Needs.{needs}
 use borrow.Author.Tests.{not-true, not-false}
 use Rattle.outcome.specs.Verdict.{damaged}
-use Rattle.audit.proofs.Decided.{holds, fails}
+use Rattle.audit_fixed.proofs.Decided.{holds, fails}
 use Rattle.text_calls.proofs.Texts.{few, bad-name, scratch-short, out-short, can-list}
 use Rattle.text_calls.proofs.judge_list.Statement.{statement}
 use Rattle.text_calls.proofs.judge_list.Tie as tie
