@@ -1,5 +1,5 @@
 -- How the answer of a test is used: where the code goes on, the proposition holds, and where it stops, it does not. Assumes nothing.
-use mathlib.Core.Path.{_≡_, sym}
+use mathlib.Core.Path.{_≡_, sym, _∙_}
 use mathlib.Core.Bool.{Bool, true, false, not, true≢false}
 use Rattle.audit_fixed.specs.Decides.{Decides}
 
@@ -17,3 +17,8 @@ fails P false d e = d
 pub carried : (P Q : Type 0) (t : Bool) → Decides t P → (P → Q) → (Q → P) → Decides t Q
 carried P Q true d there back = there d
 carried P Q false d there back = λ q. d (back q)
+
+-- the answer of a test decides whether the test passes
+pub test-decides : (t : Bool) {x : Bool} → t ≡ x → Decides t (x ≡ true)
+test-decides true e = sym e
+test-decides false e = λ f. true≢false (sym (e ∙ f))

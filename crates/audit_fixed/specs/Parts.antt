@@ -3,8 +3,9 @@ use Prim.Native.Nat.{ℕ, _+_, _≤_, _<_}
 use mathlib.Core.Path.{_≡_}
 use mathlib.Core.Bool.{true}
 use lib.ListN.{getD}
+use lib.IntN.{ℤ, pos, negsuc}
 use Rattle.palindromes.specs.Word.{Word, allLetters}
-use Rattle.store.specs.Layout.{cell, capacityIn, sizeIn, readingIn, lettersAt, lettersIn}
+use Rattle.store.specs.Layout.{capacityIn, sizeIn, readingIn, lengthIn, linkIn, innerIn, outerIn, lettersAt, lettersIn}
 use Rattle.store.specs.Good.{Sized, OrderIs, RankIs}
 
 -- the sizes, and the reading of a plain record
@@ -16,15 +17,17 @@ pub record HeaderRight (b : Word) : Type 0 where
 abbrev pub FreePlaces : Word → Type 0
 FreePlaces b = (i : ℕ) → sizeIn b ≤ i → i < capacityIn b → getD b (lettersAt (capacityIn b) + i) 0 ≡ 0
 
--- the cells of row r from one to before another are zero
-abbrev pub ZeroCells : Word → (row from to : ℕ) → Type 0
-ZeroCells b r from to = (f : ℕ) → from ≤ f → f < to → cell b r f ≡ 0
+-- the row of a root of the given length, edges apart: its link and its inner row are the imaginary string's, and it has no letter
+pub record RootRight (b : Word) (r : ℕ) (length : ℤ) : Type 0 where
+  pub length-is : lengthIn b r ≡ length
+  pub link : linkIn b r ≡ 0
+  pub inner : innerIn b r ≡ 0
+  pub outer : outerIn b r ≡ 0
 
--- the roots' rows, edges apart: the imaginary string's, and the empty string's
+-- the rows of both roots: the imaginary string, of length -1, and the empty string
 pub record RootsRight (b : Word) : Type 0 where
-  pub imaginary : ZeroCells b 0 0 4
-  pub empty-length : cell b 1 0 ≡ 1
-  pub empty : ZeroCells b 1 1 4
+  pub imaginary : RootRight b 0 (negsuc 0)
+  pub empty : RootRight b 1 (pos 0)
 
 -- place i of the order, and the rank of row i + 2
 pub record PlaceRight (b : Word) (i : ℕ) : Type 0 where

@@ -2,16 +2,18 @@
 // and the order of the rows.
 ghost use mathlib.Core.Path.{_≡_};
 ghost use mathlib.Core.Bool.{true};
-ghost use Prim.Native.Nat.{_+_, _*_, _<_, _≤_};
-ghost use lib.ListN.{length};
+ghost use Prim.Native.Nat.{_+_, _<_};
 ghost use Rattle.palindromes.specs.Word.{allLetters};
 ghost use Rattle.store.specs.Layout.{capacityIn, lettersIn};
-ghost use Rattle.store.specs.Good.{Sized};
+ghost use Rattle.store.specs.Lengths.{Stored};
+ghost use Rattle.store.specs.Good.{Sized, OrderIs, RankIs};
 ghost use Rattle.audit_fixed.specs.Decides.{Decides};
-ghost use Rattle.audit_fixed.specs.Parts.{HeaderRight, FreePlaces, ZeroCells, RootsRight, PlaceRight, OrderRight};
-use alphabet::is_letter;
-use store::rows::order_of;
-use store::rows::rank_of;
+ghost use Rattle.audit_fixed.specs.Parts.{HeaderRight, FreePlaces, RootRight, RootsRight, OrderRight};
+use alphabet::all_letters;
+use store::header;
+use store::rows;
+use store::rows::Row;
+use walk::replay::frame_of;
 
 // Whether the store has the sizes that its header names, and the reading of a plain record.
 pub fn sized(b: &[u8]) -> bool
@@ -20,7 +22,7 @@ pub fn sized(b: &[u8]) -> bool
     if b.len() < 48 {
         return false;
     }
-    let capacity = store::header::capacity(b);
+    let capacity = header::capacity(b);
     if capacity < 1 {
         return false;
     }
@@ -30,10 +32,10 @@ pub fn sized(b: &[u8]) -> bool
     if b.len() < 48 * capacity + 256 {
         return false;
     }
-    if capacity < store::header::size(b) {
+    if capacity < header::size(b) {
         return false;
     }
-    if store::header::reading(b) != 0 {
+    if header::reading(b) != 0 {
         return false;
     }
     true
@@ -44,16 +46,10 @@ pub fn letters_right(b: &[u8]) -> bool
     requires { ⌜ Sized (now b) ⌝ }
     ensures { λ r. ⌜ Decides r (allLetters (lettersIn (now (b .entry))) ≡ true) ⌝ }
 {
-    let base = 24 * (store::header::capacity(b) + 2);
-    let n = store::header::size(b);
-    let mut i = 0;
-    while i < n {
-        if !is_letter(b[base + i]) {
-            return false;
-        }
-        i += 1;
-    }
-    true
+    let frame = frame_of(b);
+    let base = frame.base;
+    let end = base + frame.n;
+    all_letters(&b[base..end])
 }
 
 // Whether the places after the last letter are zero.
@@ -61,9 +57,10 @@ pub fn places_free(b: &[u8]) -> bool
     requires { ⌜ Sized (now b) ⌝ }
     ensures { λ r. ⌜ Decides r (FreePlaces (now (b .entry))) ⌝ }
 {
-    let capacity = store::header::capacity(b);
-    let base = 24 * (capacity + 2);
-    let mut i = store::header::size(b);
+    let frame = frame_of(b);
+    let base = frame.base;
+    let capacity = frame.capacity;
+    let mut i = frame.n;
     while i < capacity {
         if b[base + i] != 0 {
             return false;
@@ -73,17 +70,24 @@ pub fn places_free(b: &[u8]) -> bool
     true
 }
 
-// Whether the cells of row r from one to before another are zero.
-pub fn zeros(b: &[u8], r: usize, from: usize, to: usize) -> bool
-    requires { ⌜ (24 * r + 24 ≤ length (now b)) × (to ≤ 12) ⌝ }
-    ensures { λ v. ⌜ Decides v (ZeroCells (now (b .entry)) r from to) ⌝ }
+// Whether row r, edges apart, is that of a root of the given length: both roots have the imaginary
+// string for their link and their inner row, and no letter.
+pub fn root_right(b: &[u8], r: usize, length: i32) -> bool
+    requires { ⌜ Sized (now b) ⌝ }
+    requires { ⌜ (r < 2) × Stored length ⌝ }
+    ensures { λ v. ⌜ Decides v (RootRight (now (b .entry)) r length) ⌝ }
 {
-    let mut f = from;
-    while f < to {
-        if store::cells::get(b, r, f) != 0 {
-            return false;
-        }
-        f += 1;
+    if rows::length_of(b, r) != length {
+        return false;
+    }
+    if rows::link_of(b, r) != Row::IMAGINARY {
+        return false;
+    }
+    if rows::inner_of(b, r) != Row::IMAGINARY {
+        return false;
+    }
+    if rows::outer_of(b, r) != 0 {
+        return false;
     }
     true
 }
@@ -93,40 +97,45 @@ pub fn roots_right(b: &[u8]) -> bool
     requires { ⌜ Sized (now b) ⌝ }
     ensures { λ r. ⌜ Decides r (RootsRight (now (b .entry))) ⌝ }
 {
-    if !zeros(b, 0, 0, 4) {
+    if !root_right(b, Row::IMAGINARY, Row::IMAGINARY_LENGTH) {
         return false;
     }
-    if store::cells::get(b, 1, 0) != 1 {
-        return false;
-    }
-    if !zeros(b, 1, 1, 4) {
+    if !root_right(b, Row::EMPTY, Row::EMPTY_LENGTH) {
         return false;
     }
     true
 }
 
-// Whether place i of the order and the rank of row i + 2 are right.
-pub fn place_right(b: &[u8], i: usize) -> bool
+// Whether place i of the order holds a row from 2 on whose rank is i.
+pub fn order_holds(b: &[u8], i: usize) -> bool
     requires { ⌜ Sized (now b) ⌝ }
     requires { ⌜ i < capacityIn (now b) ⌝ }
-    ensures { λ r. ⌜ Decides r (PlaceRight (now (b .entry)) i) ⌝ }
+    ensures { λ v. ⌜ Decides v (OrderIs (now (b .entry)) i) ⌝ }
 {
-    let capacity = store::header::capacity(b);
-    let row = order_of(b, i);
+    let row = rows::order_of(b, i);
     if row < 2 {
         return false;
     }
-    if capacity + 2 <= row {
+    if header::capacity(b) + 2 <= row {
         return false;
     }
-    if rank_of(b, row) != i {
+    if rows::rank_of(b, row) != i {
         return false;
     }
-    let rank = rank_of(b, i + 2);
-    if capacity <= rank {
+    true
+}
+
+// Whether row r has a rank, and the place of that rank in the order holds r.
+pub fn rank_holds(b: &[u8], r: usize) -> bool
+    requires { ⌜ Sized (now b) ⌝ }
+    requires { ⌜ r < capacityIn (now b) + 2 ⌝ }
+    ensures { λ v. ⌜ Decides v (RankIs (now (b .entry)) r) ⌝ }
+{
+    let rank = rows::rank_of(b, r);
+    if header::capacity(b) <= rank {
         return false;
     }
-    if order_of(b, rank) != i + 2 {
+    if rows::order_of(b, rank) != r {
         return false;
     }
     true
@@ -135,12 +144,15 @@ pub fn place_right(b: &[u8], i: usize) -> bool
 // Whether the order lists the rows from 2 on, each once, and the ranks are the places in it.
 pub fn order_right(b: &[u8]) -> bool
     requires { ⌜ Sized (now b) ⌝ }
-    ensures { λ r. ⌜ Decides r (OrderRight (now (b .entry))) ⌝ }
+    ensures { λ v. ⌜ Decides v (OrderRight (now (b .entry))) ⌝ }
 {
-    let capacity = store::header::capacity(b);
+    let capacity = header::capacity(b);
     let mut i = 0;
     while i < capacity {
-        if !place_right(b, i) {
+        if !order_holds(b, i) {
+            return false;
+        }
+        if !rank_holds(b, i + 2) {
             return false;
         }
         i += 1;

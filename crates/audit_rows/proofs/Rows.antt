@@ -1,31 +1,48 @@
--- The rows once the tour is over. What is asked of a row goes by cases, and each case of the row's test decides it; and in a good store every row passes, and so do the header's numbers: a row in use
+-- The rows once the tour is over. What is asked of every letter is asked of the four; what is asked of a row goes by cases, and each case of the row's test decides it; and in a good store every row passes, and so do the header's numbers: a row in use
 -- holds a palindrome of the letters, the tour met a row that holds it, and there is only one.
 -- Rests on the laws of a good store and of the rows met (`Toured`).
 use Prim.Native.Nat.{ℕ, _+_, _≤_, _<_}
 use native.Mathlib.Omega.{arith}
 use mathlib.Core.Path.{_≡_, refl, sym, _∙_, subst}
-use mathlib.Core.Bool.{Bool, true, false}
+use mathlib.Core.Bool.{Bool, true, false, _||_}
 use mathlib.Core.Logic.{⊎-elim}
+use lib.Dec.{eqb}
 use lib.ListN.{getD}
-use borrow.Author.Tests.{lt-ltb, le-ltb}
+use borrow.Author.Tests.{eqb-true, lt-ltb, le-ltb}
 use Rattle.palindromes.specs.Word.{Word, isLetter, member}
 use Rattle.palindromes.specs.Record.{palindromes}
 use Rattle.palindromes.specs.End.{atLeft, atRight, longestAt}
 use Rattle.palindromes.specs.Node.{Node, imaginary, spelt, around}
 use Rattle.palindromes.proofs.Tests.{false-not-true, decided}
+use Rattle.palindromes.proofs.Lists.{either-true}
 use Rattle.eertree.specs.Covers.{NodeOf}
 use Rattle.eertree.proofs.Rows.{imaginary-row}
 use Rattle.store.specs.Layout.{capacityIn, countIn, endRow, edgeIn, rankIn, usedIn, lettersIn}
 use Rattle.store.specs.Good.{ruleOf, nodeIn, Good}
 use Rattle.transitions.proofs.Rows.{covers, used-root, used-is}
 use Rattle.audit_fixed.specs.Decides.{Decides}
-use Rattle.audit_fixed.specs.Parts.{ZeroCells}
 use Rattle.audit_tour.specs.Tour.{metIn, Toured}
-use Rattle.audit_rows.specs.Rows.{EdgeRight, nowhere, there, EdgesRight, RowRight, RowsRight, EndsRight}
+use Rattle.audit_rows.specs.Rows.{ZeroCells, EdgeRight, nowhere, there, EdgesRight, RowRight, RowsRight, EndsRight}
 use Rattle.audit_tour.specs.declared.Tour.{Tour}
 use Rattle.audit_fixed.proofs.Decided.{carried}
 use Rattle.audit_tour.proofs.Marks.{met-root, met-marked, met-unmarked}
 use Rattle.audit_tour.proofs.Letter.{good-names}
+
+-- ---- letters
+
+-- what holds of each of the four letters holds of every letter
+pub letter-cases : (P : ℕ → Type 0) → P 65 → P 67 → P 71 → P 84 → (x : ℕ) → isLetter x ≡ true → P x
+unfolding isLetter
+letter-cases P a c g t x h = ⊎-elim acg (λ e. is 84 e t) (either-true (eqb x 65 || eqb x 67 || eqb x 71) (eqb x 84) h)
+  where
+    is : (y : ℕ) → eqb x y ≡ true → P y → P x
+    is y e p = subst P (sym (eqb-true x y e)) p
+
+    ac : (eqb x 65 || eqb x 67) ≡ true → P x
+    ac k = ⊎-elim (λ e. is 65 e a) (λ e. is 67 e c) (either-true (eqb x 65) (eqb x 67) k)
+
+    acg : (eqb x 65 || eqb x 67 || eqb x 71) ≡ true → P x
+    acg k = ⊎-elim ac (λ e. is 71 e g) (either-true (eqb x 65 || eqb x 67) (eqb x 71) k)
 
 -- ---- the cases of a row
 
@@ -39,10 +56,10 @@ module _ (b marks : Word) (r : ℕ) where
 
   module _ (l : 2 ≤ r) (k : r < capacityIn b + 2) where
     -- of a free row that it is zero
-    pub free-decided : countIn b ≤ rankIn b r → (t : Bool) → Decides t (ZeroCells b r 0 8) → Decides t (RowRight b marks r)
+    pub free-decided : countIn b ≤ rankIn b r → (t : Bool) → Decides t (ZeroCells b r 8) → Decides t (RowRight b marks r)
     free-decided m t d =
         let u = used-is b r l k ∙ le-ltb (rankIn b r) (countIn b) m in
-        carried (ZeroCells b r 0 8) (RowRight b marks r) t d
+        carried (ZeroCells b r 8) (RowRight b marks r) t d
         (λ z. record { met = λ v. absurd (false-not-true u v); edges = λ v. absurd (false-not-true u v); free = λ v. z }) (λ h. h .free u)
 
     module _ (m : rankIn b r < countIn b) where
@@ -86,7 +103,7 @@ module _ {b marks : Word} {t : Tour} (g : Good b) (a : Toured b marks (lettersIn
 
   -- so every row is right
   pub good-rows : RowsRight b marks
-  good-rows r l = record { met = good-met r; edges = λ u c k. good-edge r c u k; free = λ u f i h. g .free-rows r f l u h }
+  good-rows r l = record { met = good-met r; edges = λ u c k. good-edge r c u k; free = λ u f h. g .free-rows r f l u h }
 
   -- and the header has what the tour found
   pub good-ends : EndsRight b t

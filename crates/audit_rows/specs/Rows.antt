@@ -4,10 +4,13 @@ use mathlib.Core.Path.{_≡_}
 use mathlib.Core.Bool.{true, false}
 use Rattle.palindromes.specs.Word.{Word, isLetter}
 use Rattle.palindromes.specs.End.{atLeft, atRight}
-use Rattle.store.specs.Layout.{capacityIn, countIn, endRow, edgeIn, usedIn}
+use Rattle.store.specs.Layout.{cell, capacityIn, countIn, endRow, edgeIn, usedIn}
 use Rattle.audit_tour.specs.declared.Tour.{Tour}
-use Rattle.audit_fixed.specs.Parts.{ZeroCells}
 use Rattle.audit_tour.specs.Tour.{metIn, PointsBack}
+
+-- the first n cells of row r are zero
+abbrev pub ZeroCells : Word → (row n : ℕ) → Type 0
+ZeroCells b r n = (f : ℕ) → f < n → cell b r f ≡ 0
 
 -- the edge of row r by c leads nowhere, or to a row that was met and names it
 pub data EdgeRight (b marks : Word) (r c : ℕ) : Type 0 where
@@ -22,7 +25,7 @@ EdgesRight b marks r = (c : ℕ) → isLetter c ≡ true → EdgeRight b marks r
 pub record RowRight (b marks : Word) (r : ℕ) : Type 0 where
   pub met : usedIn b r ≡ true → metIn marks r ≡ true
   pub edges : usedIn b r ≡ true → EdgesRight b marks r
-  pub free : usedIn b r ≡ false → ZeroCells b r 0 8
+  pub free : usedIn b r ≡ false → ZeroCells b r 8
 
 abbrev pub RowsRight : Word → Word → Type 0
 RowsRight b marks = (r : ℕ) → r < capacityIn b + 2 → RowRight b marks r

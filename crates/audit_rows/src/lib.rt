@@ -1,12 +1,12 @@
 // The rows once the tour is over: those in use are those that it met, their edges lead nowhere
 // else, and free rows are zero.
 ghost use mathlib.Core.Path.{_≡_};
-ghost use Prim.Native.Nat.{_+_, _<_};
+ghost use Prim.Native.Nat.{_+_, _*_, _≤_, _<_};
 ghost use lib.ListN.{length};
 ghost use Rattle.store.specs.Layout.{capacityIn};
 ghost use Rattle.store.specs.Good.{Sized};
 ghost use Rattle.audit_fixed.specs.Decides.{Decides};
-ghost use Rattle.audit_rows.specs.Rows.{EdgeRight, EdgesRight, RowRight, RowsRight, EndsRight};
+ghost use Rattle.audit_rows.specs.Rows.{ZeroCells, EdgeRight, EdgesRight, RowRight, RowsRight, EndsRight};
 use audit_tour::Tour;
 use audit_tour::points_back;
 use store::letters::Side;
@@ -51,6 +51,21 @@ pub fn edges_right(b: &[u8], marks: &[u8], r: usize) -> bool
     true
 }
 
+// Whether the first n cells of row r are zero.
+pub fn zeros(b: &[u8], r: usize, n: usize) -> bool
+    requires { ⌜ (24 * r + 24 ≤ length (now b)) × (n ≤ 12) ⌝ }
+    ensures { λ v. ⌜ Decides v (ZeroCells (now (b .entry)) r n) ⌝ }
+{
+    let mut f = 0;
+    while f < n {
+        if store::cells::get(b, r, f) != 0 {
+            return false;
+        }
+        f += 1;
+    }
+    true
+}
+
 // Whether row r is right: in use, met and with its edges right, or free and zero.
 pub fn row_right(b: &[u8], marks: &[u8], r: usize) -> bool
     requires { ⌜ Sized (now b) ⌝ }
@@ -61,7 +76,7 @@ pub fn row_right(b: &[u8], marks: &[u8], r: usize) -> bool
         return edges_right(b, marks, r);
     }
     if store::header::count(b) <= store::rows::rank_of(b, r) {
-        return audit_fixed::zeros(b, r, 0, 8);
+        return zeros(b, r, 8);
     }
     if marks[r] != 1 {
         return false;

@@ -119,13 +119,18 @@ abbrev bare : Word → Word → Table
 bare b marks = record { used = metIn marks; length = lengthIn b; link = linkIn b; inner = innerIn b; outer = outerIn b; edge = λ r c. 0 }
 
 module _ {b marks : Word} (z : Ready b) (n : Blank marks) where
-  root-cell : (r f : ℕ) → r < 2 → 1 ≤ f → f < 4 → cell b r f ≡ 0
-  root-cell zero f l m h = z .roots .imaginary f (omega arith) h
-  root-cell (suc zero) f l m h = z .roots .empty f m h
-  root-cell (suc (suc r)) f l m h = absurd (omega arith)
+  -- both roots lead to the imaginary string
+  root-link : (r : ℕ) → r < 2 → linkIn b r ≡ 0
+  root-link zero l = z .roots .imaginary .link
+  root-link (suc zero) l = z .roots .empty .link
+  root-link (suc (suc r)) l = absurd (omega arith)
+
+  root-inner : (r : ℕ) → r < 2 → innerIn b r ≡ 0
+  root-inner zero l = z .roots .imaginary .inner
+  root-inner (suc zero) l = z .roots .empty .inner
+  root-inner (suc (suc r)) l = absurd (omega arith)
 
   bare-roots : Roots (bare b marks) (nodeIn b)
-  unfolding lengthIn linkIn innerIn
   bare-roots =
       record {
         used-zero = met-root marks 0 (omega arith);
@@ -133,10 +138,10 @@ module _ {b marks : Word} (z : Ready b) (n : Blank marks) where
         only = blank-met n;
         node-zero = node-zero b;
         node-one = node-one b;
-        length-zero = ap (λ (m : ℕ). predℤ (pos m)) (z .roots .imaginary 0 (omega arith) (omega arith));
-        length-one = ap (λ (m : ℕ). predℤ (pos m)) (z .roots .empty-length);
-        link = λ r h. root-cell r 1 h (omega arith) (omega arith);
-        inner = λ r h. root-cell r 2 h (omega arith) (omega arith);
+        length-zero = z .roots .imaginary .length-is;
+        length-one = z .roots .empty .length-is;
+        link = root-link;
+        inner = root-inner;
         edge = λ r c h l. refl;
       }
 

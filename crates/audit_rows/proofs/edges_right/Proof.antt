@@ -4,7 +4,7 @@ use mathlib.Core.Path.{refl}
 use Rattle.palindromes.specs.Word.{isLetter}
 use Rattle.audit_rows.specs.Rows.{EdgeRight}
 use Rattle.audit_fixed.proofs.Decided.{holds, fails}
-use Rattle.audit_fixed.proofs.Parts.{letter-cases}
+use Rattle.audit_rows.proofs.Rows.{letter-cases}
 use Rattle.audit_rows.proofs.edges_right.Statement.{statement}
 use Rattle.audit_rows.proofs.edges_right.Tie as tie
 
