@@ -1,11 +1,10 @@
 -- What each test of src/lib.rt decides: the parts of a good store that say nothing of its palindromes.
 use Prim.Native.Nat.{ℕ, _+_, _≤_, _<_}
 use mathlib.Core.Path.{_≡_}
-use mathlib.Core.Bool.{true}
 use lib.ListN.{getD}
 use lib.IntN.{ℤ, pos, negsuc}
-use Rattle.palindromes.specs.Word.{Word, allLetters}
-use Rattle.store.specs.Layout.{capacityIn, sizeIn, readingIn, lengthIn, linkIn, innerIn, outerIn, lettersAt, lettersIn}
+use Rattle.palindromes.specs.Word.{Word}
+use Rattle.store.specs.Layout.{capacityIn, sizeIn, readingIn, lengthIn, linkIn, innerIn, outerIn, lettersAt}
 use Rattle.store.specs.Good.{Sized, OrderIs, RankIs}
 
 -- the sizes, and the reading of a plain record
@@ -36,9 +35,3 @@ pub record PlaceRight (b : Word) (i : ℕ) : Type 0 where
 
 abbrev pub OrderRight : Word → Type 0
 OrderRight b = (i : ℕ) → i < capacityIn b → PlaceRight b i
-
--- what the tour of the letters asks of a store
-pub record Ready (b : Word) : Type 0 where
-  pub sized : Sized b
-  pub letters : allLetters (lettersIn b) ≡ true
-  pub roots : RootsRight b

@@ -13,7 +13,7 @@ use alphabet::all_letters;
 use store::header;
 use store::rows;
 use store::rows::Row;
-use walk::replay::frame_of;
+use walk::frame::frame_of;
 
 // Whether the store has the sizes that its header names, and the reading of a plain record.
 pub fn sized(b: &[u8]) -> bool

@@ -26,7 +26,7 @@ use Rattle.audit_rows.specs.Rows.{ZeroCells, EdgeRight, nowhere, there, 
 use Rattle.audit_tour.specs.declared.Tour.{Tour}
 use Rattle.audit_fixed.proofs.Decided.{carried}
 use Rattle.audit_tour.proofs.Marks.{met-root, met-marked, met-unmarked}
-use Rattle.audit_tour.proofs.Letter.{good-names}
+use Rattle.audit_edge.proofs.Edge.{good-names}
 
 -- ---- letters
 

@@ -2,15 +2,24 @@
 use Prim.Native.Nat.{ℕ, _+_, _<_}
 use mathlib.Core.Path.{_≡_}
 use mathlib.Core.Bool.{true, false}
+use lib.ListN.{length}
 use Rattle.palindromes.specs.Word.{Word, isLetter}
 use Rattle.palindromes.specs.End.{atLeft, atRight}
 use Rattle.store.specs.Layout.{cell, capacityIn, countIn, endRow, edgeIn, usedIn}
 use Rattle.audit_tour.specs.declared.Tour.{Tour}
-use Rattle.audit_tour.specs.Tour.{metIn, PointsBack}
+use Rattle.store.specs.Good.{Sized}
+use Rattle.audit_edge.specs.Edge.{PointsBack}
+use Rattle.audit_tour.specs.Tour.{metIn}
 
 -- the first n cells of row r are zero
 abbrev pub ZeroCells : Word → (row n : ℕ) → Type 0
 ZeroCells b r n = (f : ℕ) → f < n → cell b r f ≡ 0
+
+-- row r is one of a store's table, and every row has a mark
+pub record RowAt (b marks : Word) (r : ℕ) : Type 0 where
+  pub sized : Sized b
+  pub inside : r < capacityIn b + 2
+  pub marked : length marks ≡ 1026
 
 -- the edge of row r by c leads nowhere, or to a row that was met and names it
 pub data EdgeRight (b marks : Word) (r c : ℕ) : Type 0 where

@@ -1,23 +1,24 @@
 // The rows once the tour is over: those in use are those that it met, their edges lead nowhere
 // else, and free rows are zero.
 ghost use mathlib.Core.Path.{_≡_};
-ghost use Prim.Native.Nat.{_+_, _*_, _≤_, _<_};
+ghost use Prim.Native.Nat.{_+_, _*_, _≤_};
 ghost use lib.ListN.{length};
-ghost use Rattle.store.specs.Layout.{capacityIn};
 ghost use Rattle.store.specs.Good.{Sized};
 ghost use Rattle.audit_fixed.specs.Decides.{Decides};
-ghost use Rattle.audit_rows.specs.Rows.{ZeroCells, EdgeRight, EdgesRight, RowRight, RowsRight, EndsRight};
+ghost use Rattle.audit_rows.specs.Rows.{ZeroCells, RowAt, EdgeRight, EdgesRight, RowRight, RowsRight, EndsRight};
+use audit_edge::points_back;
 use audit_tour::Tour;
-use audit_tour::points_back;
+use store::cells;
+use store::header;
 use store::letters::Side;
+use store::rows;
 
 // Whether the edge of row r by c leads nowhere, or to a row that was met and names it.
 pub fn edge_right(b: &[u8], marks: &[u8], r: usize, c: u8) -> bool
-    requires { ⌜ Sized (now b) ⌝ }
-    requires { ⌜ (r < capacityIn (now b) + 2) × (length (now marks) ≡ 1026) ⌝ }
+    requires { ⌜ RowAt (now b) (now marks) r ⌝ }
     ensures { λ v. ⌜ Decides v (EdgeRight (now (b .entry)) (now (marks .entry)) r c) ⌝ }
 {
-    let q = store::rows::edge_of(b, r, c);
+    let q = rows::edge_of(b, r, c);
     if q == 0 {
         return true;
     }
@@ -32,8 +33,7 @@ pub fn edge_right(b: &[u8], marks: &[u8], r: usize, c: u8) -> bool
 
 // Whether every edge of row r is right.
 pub fn edges_right(b: &[u8], marks: &[u8], r: usize) -> bool
-    requires { ⌜ Sized (now b) ⌝ }
-    requires { ⌜ (r < capacityIn (now b) + 2) × (length (now marks) ≡ 1026) ⌝ }
+    requires { ⌜ RowAt (now b) (now marks) r ⌝ }
     ensures { λ v. ⌜ Decides v (EdgesRight (now (b .entry)) (now (marks .entry)) r) ⌝ }
 {
     if !edge_right(b, marks, r, b'A') {
@@ -58,7 +58,7 @@ pub fn zeros(b: &[u8], r: usize, n: usize) -> bool
 {
     let mut f = 0;
     while f < n {
-        if store::cells::get(b, r, f) != 0 {
+        if cells::get(b, r, f) != 0 {
             return false;
         }
         f += 1;
@@ -68,14 +68,13 @@ pub fn zeros(b: &[u8], r: usize, n: usize) -> bool
 
 // Whether row r is right: in use, met and with its edges right, or free and zero.
 pub fn row_right(b: &[u8], marks: &[u8], r: usize) -> bool
-    requires { ⌜ Sized (now b) ⌝ }
-    requires { ⌜ (r < capacityIn (now b) + 2) × (length (now marks) ≡ 1026) ⌝ }
+    requires { ⌜ RowAt (now b) (now marks) r ⌝ }
     ensures { λ v. ⌜ Decides v (RowRight (now (b .entry)) (now (marks .entry)) r) ⌝ }
 {
     if r < 2 {
         return edges_right(b, marks, r);
     }
-    if store::header::count(b) <= store::rows::rank_of(b, r) {
+    if header::count(b) <= rows::rank_of(b, r) {
         return zeros(b, r, 8);
     }
     if marks[r] != 1 {
@@ -90,7 +89,7 @@ pub fn rows_right(b: &[u8], marks: &[u8]) -> bool
     requires { ⌜ length (now marks) ≡ 1026 ⌝ }
     ensures { λ v. ⌜ Decides v (RowsRight (now (b .entry)) (now (marks .entry))) ⌝ }
 {
-    let rows = store::header::capacity(b) + 2;
+    let rows = header::capacity(b) + 2;
     let mut r = 0;
     while r < rows {
         if !row_right(b, marks, r) {
@@ -106,13 +105,13 @@ pub fn ends_right(b: &[u8], tour: Tour) -> bool
     requires { ⌜ Sized (now b) ⌝ }
     ensures { λ v. ⌜ Decides v (EndsRight (now (b .entry)) tour) ⌝ }
 {
-    if store::header::count(b) != tour.met {
+    if header::count(b) != tour.met {
         return false;
     }
-    if store::header::end_row(b, Side::Left) != tour.left {
+    if header::end_row(b, Side::Left) != tour.left {
         return false;
     }
-    if store::header::end_row(b, Side::Right) != tour.row {
+    if header::end_row(b, Side::Right) != tour.row {
         return false;
     }
     true

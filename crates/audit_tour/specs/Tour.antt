@@ -1,20 +1,30 @@
 -- What the tour of src/lib.rt has shown of a store once some of its letters are read: the rows that it met are the eertree of those letters.
-use Prim.Native.Nat.{ℕ, _+_, _≤_, _<_}
+use Prim.Native.Nat.{ℕ, _+_, _<_}
 use mathlib.Core.Path.{_≡_}
-use mathlib.Core.Bool.{Bool, true, _||_}
+use mathlib.Core.Bool.{Bool, true, _||_, cond}
 use mathlib.Core.List.{[], _∷_, _++_}
-use lib.Dec.{eqb, ltb}
-use lib.ListN.{length, getD}
-use Rattle.palindromes.specs.Word.{Word}
+use lib.Dec.{eqb, leb, ltb}
+use lib.ListN.{length, getD, take}
+use Rattle.palindromes.specs.Word.{Word, allLetters}
 use Rattle.palindromes.specs.Record.{count, longestSuffix, longestPrefix}
 use Rattle.palindromes.specs.Node.{spelt, around}
 use Rattle.eertree.specs.Covers.{Covers, withUsed}
-use Rattle.store.specs.Layout.{capacityIn, innerIn, outerIn, linkIn, usedIn, lettersIn}
-use Rattle.store.specs.Good.{ruleOf, tableIn, nodeIn, Good}
-use Rattle.walk.specs.Walk.{Stepped}
+use Rattle.store.specs.Layout.{cell, sizeIn, usedIn, lettersIn}
+use Rattle.store.specs.Good.{ruleOf, tableIn, nodeIn, Sized, Good}
+use Rattle.audit_fixed.specs.Parts.{RootsRight}
 use Rattle.audit_tour.specs.declared.Tour.{Tour}
 use Rattle.audit_tour.specs.declared.Visit.{Visit}
 use Rattle.audit_tour.specs.declared.Visit.the-variants.{Next, Broken}
+
+-- what the tour asks of a store
+pub record Ready (b : Word) : Type 0 where
+  pub sized : Sized b
+  pub letters : allLetters (lettersIn b) ≡ true
+  pub roots : RootsRight b
+
+-- the letters read, once there are k of them
+abbrev pub readIn : Word → ℕ → Word
+readIn b k = take k (lettersIn b)
 
 -- the row was met: it is a root, or its mark is 1
 unfoldable pub metIn : Word → ℕ → Bool
@@ -36,22 +46,21 @@ pub record Toured (b marks p : Word) (t : Tour) : Type 0 where
   pub left-holds : nodeIn b (t .left) ≡ spelt (longestPrefix (ruleOf b) p)
   pub met-is : t .met ≡ count (ruleOf b) p
 
--- around the met row u the letter d behind p makes the longest palindrome that then ends the letters
-pub record Grows (b marks p : Word) (d u : ℕ) : Type 0 where
+-- the row of the longest palindrome that begins k + 1 letters, if row q's is the longest that ends them: row q itself if that is all of them
+abbrev pub leftAfter : Word → (k q left : ℕ) → ℕ
+leftAfter b k q left = cond (leb (cell b q 0) (k + 1)) left q
+
+-- k letters of a store that is ready are read, and one more follows
+pub record Reading (b marks : Word) (k : ℕ) (t : Tour) : Type 0 where
+  pub ready : Ready b
+  pub more : k < sizeIn b
+  pub toured : Toured b marks (readIn b k) t
+
+-- the letter that follows is d, and around the met row u it makes the longest palindrome that then ends the letters
+pub record Grows (b marks : Word) (k d u : ℕ) : Type 0 where
+  pub next : d ≡ getD (lettersIn b) k 0
   pub met : metIn marks u ≡ true
-  pub longest : longestSuffix (ruleOf b) (p ++ (d ∷ [])) ≡ around (ruleOf b) d (nodeIn b u)
-
--- row q is one of the table, and names row u and the letter d as what it is made of
-pub record PointsBack (b : Word) (u d q : ℕ) : Type 0 where
-  pub low : 2 ≤ q
-  pub high : q < capacityIn b + 2
-  pub inner : innerIn b q ≡ u
-  pub outer : outerIn b q ≡ d
-
--- the row of the link of what d makes of row u: the empty string's for a letter alone, and else what the walk for d finds from the link of u
-pub data LinkFound (b : Word) (k d u x : ℕ) : Type 0 where
-  alone : u ≡ 0 → x ≡ 1 → LinkFound b k d u x
-  within : (u ≡ 0 → ⊥) → Stepped b (lettersIn b) k d (ruleOf b d) (linkIn b u) x → LinkFound b k d u x
+  pub longest : longestSuffix (ruleOf b) (readIn b k ++ (d ∷ [])) ≡ around (ruleOf b) d (nodeIn b u)
 
 -- how a tour stands once the letters p are read: it goes on, or the store is not good
 abbrev pub Visited : Word → Word → Word → Visit → Type 0

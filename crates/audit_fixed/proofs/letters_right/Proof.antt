@@ -1,14 +1,13 @@
 -- `audit_fixed::letters_right` decides whether every letter is one: the part of the store that it looks at is the letters. Assumes nothing.
-use Prim.Native.Nat.{ℕ, _+_, _-_, _≤_}
+use Prim.Native.Nat.{_+_, _-_}
 use native.Mathlib.Omega.{arith}
 use borrow.Author.Needs.{needs}
 use mathlib.Core.Path.{_≡_, ap, _∙_}
-use lib.ListN.{length, take, drop}
+use lib.ListN.{take, drop}
 use Rattle.palindromes.specs.Word.{Word, allLetters}
 use Rattle.store.specs.Layout.{sizeIn, lettersIn}
-use Rattle.store.specs.Good.{Sized}
-use Rattle.walk.specs.Replay.{Frames}
-use Rattle.walk.specs.declared.replay.Frame.{Frame}
+use Rattle.walk.specs.Frame.{Frames}
+use Rattle.walk.specs.declared.frame.Frame.{Frame}
 use Rattle.walk.proofs.Stores.{framed-within}
 use Rattle.audit_fixed.proofs.Decided.{test-decides}
 use Rattle.audit_fixed.proofs.letters_right.Statement.{statement}

@@ -8,8 +8,8 @@ use lib.ListN.{length, getD}
 use Rattle.palindromes.specs.Word.{Word}
 use Rattle.store.specs.Layout.{capacityIn, sizeIn, lettersAt}
 use Rattle.store.specs.Good.{Sized}
-use Rattle.walk.specs.Replay.{Frames}
-use Rattle.walk.specs.declared.replay.Frame.{Frame}
+use Rattle.walk.specs.Frame.{Frames}
+use Rattle.walk.specs.declared.frame.Frame.{Frame}
 use Rattle.walk.proofs.Stores.{store-long}
 use Rattle.audit_fixed.specs.Parts.{FreePlaces}
 use Rattle.audit_fixed.proofs.places_free.Statement.{statement}

@@ -1,5 +1,4 @@
 -- `audit_rows::edges_right` decides whether each of the four edges of a row is right. Assumes nothing.
-use borrow.Author.Needs.{needs}
 use mathlib.Core.Path.{refl}
 use Rattle.palindromes.specs.Word.{isLetter}
 use Rattle.audit_rows.specs.Rows.{EdgeRight}
@@ -26,23 +25,26 @@ returns-4 c a = fails _ (c .before .edge-right4 .result) (c .before .edge-right4
 
 returns-5 : tie.Need-returns-5
 returns-5 c =
-    let s = c .before .before .before .before .before .before .before .before .before .before .args in
+    let third = c .before .before in
+    let second = third .before .before in
+    let first = second .before .before in
+    let s = first .before .before .before .before .args in
     letter-cases (EdgeRight (s .b .now) (s .marks .now) (s .r))
-    (holds _ (c .before .before .before .before .before .before .before .edge-right .result) (c .before .before .before .before .before .before .before .edge-right .ensures) (c .before .before .before .before .before .before .if1 .left))
-    (holds _ (c .before .before .before .before .before .edge-right2 .result) (c .before .before .before .before .before .edge-right2 .ensures) (c .before .before .before .before .if2 .left))
-    (holds _ (c .before .before .before .edge-right3 .result) (c .before .before .before .edge-right3 .ensures) (c .before .before .if3 .left))
+    (holds _ (first .before .edge-right .result) (first .before .edge-right .ensures) (first .if1 .left))
+    (holds _ (second .before .edge-right2 .result) (second .before .edge-right2 .ensures) (second .if2 .left))
+    (holds _ (third .before .edge-right3 .result) (third .before .edge-right3 .ensures) (third .if3 .left))
     (holds _ (c .before .edge-right4 .result) (c .before .edge-right4 .ensures) (c .if4 .left))
 
 pub edges-right-spec : {M : Type 1} → statement M
 edges-right-spec =
     tie.close
     (tie.spec
-    (λ c κs. search needs)
+    (λ c κs. c .before .before .pre)
     returns
-    (λ c κs. search needs)
+    (λ c κs. c .before .before .before .before .pre)
     returns-2
-    (λ c κs. search needs)
+    (λ c κs. c .before .before .before .before .before .before .pre)
     returns-3
-    (λ c κs. search needs)
+    (λ c κs. c .before .before .before .before .before .before .before .before .pre)
     returns-4
     returns-5)

@@ -22,6 +22,11 @@ Inv-loop b marks rows r₀ r = Passed b marks rows r
 abbrev μ-loop : tie.MeasureT-loop
 μ-loop b marks rows r₀ r = rows - r
 
+row-right-requires : tie.Need-row-right-requires Inv-loop μ-loop
+row-right-requires c κs =
+    let p = c .before .before .before .before .before .pre in
+    record { sized = p .0; inside = omega (arith, c .loop-test .taken, c .before .loop .inv .rows-are); marked = p .1 }
+
 loop-again : tie.Need-loop-again Inv-loop μ-loop
 loop-again c =
     let h = c .before .before .before .loop .inv in
@@ -40,7 +45,7 @@ rows-right-spec =
     (λ c κs. header-fits (c .before .before .pre .0))
     (λ c. search needs)
     (λ c. record { rows-are = ap (λ (x : ℕ). x + 2) (c .capacity .ensures .0); so-far = λ j l. absurd (omega arith) })
-    (λ c κs. (c .before .before .before .before .before .pre .0, (omega (arith, c .loop-test .taken, c .before .loop .inv .rows-are), c .before .before .before .before .before .pre .1)))
+    row-right-requires
     (λ c a. fails _ (c .before .row-right .result) (c .before .row-right .ensures) (c .if1 .taken) (a (c .before .before .before .loop .r) (omega (arith, c .before .before .loop-test .taken, c .before .before .before .loop .inv .rows-are))))
     (λ c. omega (arith, c .before .before .before .before .capacity .ensures .1, c .before .before .loop-test .taken))
     (λ c. omega arith)

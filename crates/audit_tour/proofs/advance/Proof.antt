@@ -1,69 +1,68 @@
 -- `audit_tour::advance` walks for the next letter, and goes along the edge of the row that the walk finds, or on to the empty string's row. Assumes nothing.
-use Prim.Native.Nat.{ℕ, _+_, _*_, _<_}
+use Prim.Native.Nat.{ℕ, _+_}
 use native.Mathlib.Omega.{arith}
 use borrow.Author.Needs.{needs}
-use mathlib.Core.Path.{_≡_, sym, ap, _∙_}
-use lib.ListN.{length, getD}
+use mathlib.Core.Path.{_≡_, ap, _∙_, subst₂}
+use lib.ListN.{getD}
 use Rattle.palindromes.specs.Word.{Word}
-use Rattle.store.specs.Layout.{capacityIn, sizeIn, lettersAt, lettersIn}
-use Rattle.store.specs.Good.{ruleOf, Sized}
+use Rattle.store.specs.Layout.{lettersIn}
+use Rattle.store.specs.Good.{ruleOf}
+use Rattle.store.specs.declared.letters.Side.the-variants.{Right}
+use Rattle.walk.specs.Frame.{Frames, seenIn, partnerIn}
 use Rattle.walk.specs.Walk.{Meets}
-use Rattle.walk.proofs.Stores.{header-fits, store-long}
-use Rattle.transitions.proofs.Rows.{letter-at}
-use Rattle.audit_tour.proofs.Letter.{seen-within, seen-as, met-chain, tour-grows, tour-none}
+use Rattle.walk.specs.declared.Walked.{Walked}
+use Rattle.walk.specs.declared.frame.Frame.{Frame}
+use Rattle.walk.proofs.Stores.{framed-rule, framed-within}
+use Rattle.audit_edge.proofs.Edge.{framed-right}
+use Rattle.audit_tour.proofs.Letter.{met-chain, tour-grows, tour-none}
 use Rattle.audit_tour.proofs.advance.Statement.{statement}
 use Rattle.audit_tour.proofs.advance.Tie as tie
 
-module _ {b : Word} {base k : ℕ} (z : Sized b) (e : base ≡ lettersAt (capacityIn b)) (h : k < sizeIn b) where
-  inside : base + k < length b
-  inside = omega (arith, store-long z, z .letters-fit)
+module _ {b : Word} {f : Frame} (h : Frames b f) (k : ℕ) where
+  -- the letter that is read is letter k of the store
+  letter : {d : ℕ} → d ≡ getD (seenIn b f Right) k 0 → d ≡ getD (lettersIn b) k 0
+  letter e = e ∙ ap (λ (t : Word). getD t k 0) (framed-right h)
 
-  -- the byte that is read is letter k
-  letter : getD b (base + k) 0 ≡ getD (lettersIn b) k 0
-  letter = ap (λ (at : ℕ). getD b (at + k) 0) e ∙ sym (letter-at b k h)
+  -- and what the walk does, it does over the store's letters
+  met : {d r : ℕ} {o : Walked} → Meets b (seenIn b f Right) k d (partnerIn f d) r o → Meets b (lettersIn b) k d (ruleOf b d) r o
+  met {d} {r} {o} m = subst₂ (λ (t : Word) (want : ℕ). Meets b t k d want r o) (framed-right h) (framed-rule h d) m
 
--- where the letters are
-base-is : (c : tie.After-capacity) → 24 * (c .capacity .result + 2) ≡ lettersAt (capacityIn (c .before .before .before .before .args .b .now))
-base-is c = ap (λ (x : ℕ). 24 * (x + 2)) (c .capacity .ensures .0)
+-- the entry, from behind the walk
+abbrev entry : tie.After-walk → tie.Start
+entry c = c .before .before .before .before
 
--- what the walk does, in terms of the letters
-met : (c : tie.After-walk) → Meets (c .before .before .before .before .before .before .before .args .b .now) (lettersIn (c .before .before .before .before .before .before .before .args .b .now)) (c .before .before .before .before .before .before .before .args .k) (getD (c .before .before .before .before .before .before .before .args .b .now) (24 * (c .before .before .before .capacity .result + 2) + c .before .before .before .before .before .before .before .args .k) 0)
-    (ruleOf (c .before .before .before .before .before .before .before .args .b .now) (getD (c .before .before .before .before .before .before .before .args .b .now) (24 * (c .before .before .before .capacity .result + 2) + c .before .before .before .before .before .before .before .args .k) 0)) (c .before .before .before .before .before .before .before .args .tour .row) (c .walk .result)
-met c =
-    let a = c .before .before .before .before .before .before .before .args in
-    let d = getD (a .b .now) (24 * (c .before .before .before .capacity .result + 2) + a .k) 0 in
-    seen-as (a .b .now) (λ (t : Word) (σ : ℕ → ℕ). Meets (a .b .now) t (a .k) d (σ d) (a .tour .row) (c .walk .result))
-    (c .before .before .before .before .reading .ensures .0) (base-is (c .before .before .before)) (c .before .before .size .ensures .0) (c .walk .ensures)
+seen-requires : tie.Need-seen-requires
+seen-requires c κs =
+    let s = c .before .before in
+    let w = framed-within (s .pre .0) (s .pre .1 .ready .sized) (s .args .k + 1) (omega (arith, s .pre .1 .more)) in
+    (w .letters, omega (arith, w .read))
 
 walk-requires : tie.Need-walk-requires
 walk-requires c κs =
-    let p = c .before .before .before .before .before .before .pre in
-    (seen-within (p .0 .sized) (base-is (c .before .before)) (c .before .size .ensures .0) (p .1 .0), met-chain (c .before .before .before .before .before .before .args .k) (p .0) (p .1 .0) (p .1 .1) (c .before .before .before .before .before .before .args .tour .row) (p .1 .1 .row-met))
+    let s = c .before .before .before in
+    let r = s .pre .1 in
+    (framed-within (s .pre .0) (r .ready .sized) (s .args .k) (omega (arith, r .more)), met-chain r (s .args .tour .row) (r .toured .row-met))
 
 enter-requires : tie.Need-enter-requires
 enter-requires c κs =
-    let s = c .before .before .before .before .before .before .before .before .before .before .before in
-    let p = s .pre in
-    let e = letter (p .0 .sized) (base-is (c .before .before .before .before .before .before .before)) (p .1 .0) in
-    (p .0, (p .1 .0, (p .1 .1, (e, tour-grows (s .args .k) (p .0) (p .1 .0) (p .1 .1) _ e (c .before .before .before .before .walk .result) (met (c .before .before .before .before)) (c .before .before .found .given .0 .0) (c .before .before .found .given .1)))))
+    let w = c .before .before .before .before in
+    let p = entry w .pre in
+    let e = letter (p .0) (entry w .args .k) (w .before .seen .ensures) in
+    let m = met (p .0) (entry w .args .k) (w .walk .ensures) in
+    (p .0, (p .1, tour-grows (p .1) e m (c .before .before .found .given .0 .0) (c .before .before .found .given .1)))
 
 returns-2 : tie.Need-returns-2
 returns-2 c =
-    let s = c .before .before .before .before .before .before .before .before .before in
-    let p = s .pre in
-    tour-none (s .args .k) (p .0) (p .1 .0) (p .1 .1) _ (letter (p .0 .sized) (base-is (c .before .before .before .before .before)) (p .1 .0)) (c .before .before .walk .result) (met (c .before .before)) (c .enum-told .given .1)
+    let w = c .before .before in
+    let p = entry w .pre in
+    let e = letter (p .0) (entry w .args .k) (w .before .seen .ensures) in
+    tour-none (p .1) e (met (p .0) (entry w .args .k) (w .walk .ensures)) (c .enum-told .given .1)
 
 pub advance-spec : {M : Type 1} → statement M
 advance-spec =
     tie.close
     (tie.spec
-    (λ c κs. header-fits (c .before .before .pre .0 .sized))
-    (λ c κs. header-fits (c .before .before .before .pre .0 .sized))
-    (λ c. search needs)
-    (λ c. search needs)
-    (λ c κs. header-fits (c .before .before .before .before .pre .0 .sized))
-    (λ c. search needs)
-    (λ c. inside (c .before .before .before .before .before .before .pre .0 .sized) (base-is (c .before .before)) (c .before .before .before .before .before .before .pre .1 .0))
+    seen-requires
     walk-requires
     (λ c. search needs)
     enter-requires

@@ -1,120 +1,118 @@
 -- `audit_tour::enter` goes along an edge: each of its tests passes in a good store, and where all pass the tour goes on (`Letter`). Assumes nothing.
-use Prim.Native.Nat.{ℕ, _+_, _*_, _≤_, _<_}
+use Prim.Native.Nat.{ℕ, _<_}
 use native.Mathlib.Omega.{arith}
 use borrow.Author.Needs.{needs}
-use mathlib.Core.Path.{_≡_, sym, _∙_, subst}
-use mathlib.Core.Bool.{cond}
-use lib.Dec.{leb}
-use lib.ListN.{length, getD, take, set}
+use borrow.Author.Tests.{not-true, not-false}
+use mathlib.Core.Path.{subst}
+use lib.ListN.{length}
 use Rattle.palindromes.specs.Word.{Word}
-use Rattle.store.specs.Layout.{cell, sizeIn, countIn, linkIn, edgeIn, rankIn, lettersIn}
-use Rattle.store.specs.Good.{Good}
-use Rattle.walk.specs.Walk.{Chain}
-use Rattle.walk.proofs.Stores.{header-fits, rows-fit}
+use Rattle.walk.proofs.Stores.{rows-fit}
 use Rattle.transitions.proofs.Rows.{row-fits}
-use Rattle.audit_fixed.specs.Parts.{Ready}
-use Rattle.audit_tour.specs.Tour.{Toured, Grows, PointsBack, LinkFound}
-use Rattle.audit_tour.specs.declared.Tour.{Tour}
 use Rattle.audit_fixed.proofs.Decided.{holds, fails}
-use Rattle.audit_tour.proofs.Letter.{met-most, met-chain, tour-old, tour-new, good-back, good-longer, good-rank, good-link}
+use Rattle.audit_edge.specs.Edge.{PointsBack, NewRow}
+use Rattle.audit_tour.specs.Tour.{Reading}
+use Rattle.audit_tour.specs.declared.Tour.{Tour}
+use Rattle.audit_tour.proofs.Letter.{met-most, grown-walkable, tour-old, tour-new, good-back, good-new}
 use Rattle.audit_tour.proofs.enter.Statement.{statement}
 use Rattle.audit_tour.proofs.enter.Tie as tie
 
--- what the function may assume
-abbrev Given : Word → Word → ℕ → Tour → ℕ → ℕ → Type 0
-Given b marks k t u d =
-    Ready b × ((k < sizeIn b) × (Toured b marks (take k (lettersIn b)) t × ((d ≡ getD (lettersIn b) k 0) × Grows b marks (take k (lettersIn b)) d u)))
+module _ {b marks : Word} {k : ℕ} {t : Tour} (s : Reading b marks k t) where
+  -- numbers of letters and of rows are small
+  k-small : k < 1024
+  k-small = omega (arith, s .more, s .ready .sized .letters-fit, s .ready .sized .at-most)
 
-module _ {b marks : Word} {k : ℕ} {t : Tour} {u d : ℕ} (p : Given b marks k t u d) where
-  u-fits : 24 * u + 24 ≤ length b
-  u-fits = rows-fit (p .0 .sized) u (p .1 .1 .0 .used u (p .1 .1 .1 .1 .met))
+  met-small : t .met < 1024
+  met-small = omega (arith, met-most s, k-small)
 
-  u-chain : Chain b u
-  u-chain = met-chain k (p .0) (p .1 .0) (p .1 .1 .0) u (p .1 .1 .1 .1 .met)
+  -- every row of the table has a mark
+  mark-of : (q : ℕ) {u d : ℕ} → PointsBack b u d q → q < length marks
+  mark-of q r = omega (arith, s .toured .long, r .high, s .ready .sized .at-most)
 
-  -- a count of rows is small
-  met-room : t .met ≤ 1024
-  met-room = omega (arith, met-most k (p .0) (p .1 .0) (p .1 .1 .0), p .1 .0, p .0 .sized .letters-fit, p .0 .sized .at-most)
+-- the entry, from behind the first test, and what is known there: the row names the edge
+abbrev from-back : tie.Else1 → tie.Start
+from-back c = c .before .before .before .before .before
 
-  module _ {q : ℕ} (r : PointsBack b u d q) where
-    q-fits : 24 * q + 24 ≤ length b
-    q-fits = row-fits (p .0 .sized) q (r .high)
-
-    q-marked : q < length marks
-    q-marked = omega (arith, p .1 .1 .0 .long, r .high, p .0 .sized .at-most)
-
-    old : (left : ℕ) → getD marks q 0 ≡ 1 → left ≡ cond (leb (cell b q 0) (k + 1)) (t .left) q → Toured b marks (take (k + 1) (lettersIn b)) (record { row = q; left = left; met = t .met })
-    old left f l = tour-old k (p .0) (p .1 .0) (p .1 .1 .0) d (p .1 .1 .1 .0) u (p .1 .1 .1 .1) q left r f l
-
-    new : (left : ℕ) → q ≡ edgeIn b u d → (getD marks q 0 ≡ 1 → ⊥) → cell b q 0 ≡ cell b u 0 + 2 → rankIn b q < countIn b → LinkFound b k d u (linkIn b q)
-        → left ≡ cond (leb (cell b q 0) (k + 1)) (t .left) q → Toured b (set marks q 1) (take (k + 1) (lettersIn b)) (record { row = q; left = left; met = t .met + 1 })
-    new left = tour-new k (p .0) (p .1 .0) (p .1 .1 .0) d (p .1 .1 .1 .0) u (p .1 .1 .1 .1) q r left
-
-  module _ {q : ℕ} (f : q ≡ edgeIn b u d) (g : Good b) where
-    back : PointsBack b u d q
-    back = good-back k (p .0) (p .1 .0) (p .1 .1 .0) d (p .1 .1 .1 .0) u (p .1 .1 .1 .1) g q f
-
-    longer : cell b q 0 ≡ cell b u 0 + 2
-    longer = good-longer k (p .0) (p .1 .0) (p .1 .1 .0) d (p .1 .1 .1 .0) u (p .1 .1 .1 .1) g q f
-
-    rank : rankIn b q < countIn b
-    rank = good-rank k (p .0) (p .1 .0) (p .1 .1 .0) d (p .1 .1 .1 .0) u (p .1 .1 .1 .1) g q f
-
-    link : (x : ℕ) → LinkFound b k d u x → linkIn b q ≡ x
-    link = good-link k (p .0) (p .1 .0) (p .1 .1 .0) d (p .1 .1 .1 .0) u (p .1 .1 .1 .1) g q f
-
--- past the first test the row names the edge
-named : (c : tie.Else1) → PointsBack (c .before .before .before .before .before .args .b .now) (c .before .before .before .before .before .args .u) (c .before .before .before .before .before .args .d) (c .before .before .edge-of .result)
+named : (c : tie.Else1) → PointsBack (from-back c .args .b .now) (from-back c .args .u) (from-back c .args .d) (c .before .before .edge-of .result)
 named c = holds _ (c .before .points-back .result) (c .before .points-back .ensures) (c .if1 .left)
 
+-- the first test, from behind the second and from behind the third
+abbrev back : tie.Else2 → tie.Else1
+back c = c .before .before .before
+
+abbrev back-of-new : tie.Else3 → tie.Else1
+back-of-new c = back (c .before .before)
+
+edge-of-requires : tie.Need-edge-of-requires
+edge-of-requires c κs =
+    let p = c .before .before .pre in
+    rows-fit (p .1 .0 .ready .sized) (c .before .before .args .u) (p .1 .0 .toured .used (c .before .before .args .u) (p .1 .1 .met))
+
 returns : tie.Need-returns
-returns c g = fails _ (c .before .points-back .result) (c .before .points-back .ensures) (c .if1 .taken) (back (c .before .before .before .before .before .pre) (c .before .before .edge-of .ensures .0) g)
+returns c g =
+    let p = c .before .before .before .before .before .pre in
+    fails _ (c .before .points-back .result) (c .before .points-back .ensures) (c .if1 .taken) (good-back (p .1 .0) (p .1 .1) g (c .before .before .edge-of .ensures .0))
 
 left-after-requires : tie.Need-left-after-requires
 left-after-requires c κs =
-    let p = c .before .before .before .before .before .pre in
-    (q-fits p (named c), omega (arith, p .1 .0, p .0 .sized .letters-fit, p .0 .sized .at-most))
+    let s = from-back c .pre .1 .0 in
+    (row-fits (s .ready .sized) (c .before .before .edge-of .result) (named c .high), omega (arith, k-small s))
+
+slice-read-if2 : tie.Need-slice-read-if2
+slice-read-if2 c = mark-of (from-back (c .before .before) .pre .1 .0) (c .before .before .before .before .edge-of .result) (named (c .before .before))
 
 returns-2 : tie.Need-returns-2
-returns-2 c = old (c .before .before .before .before .before .before .before .before .pre) (named (c .before .before .before)) (c .before .before .left-after .result) (c .if2 .taken) (c .before .before .left-after .ensures)
+returns-2 c =
+    let first = c .before .before .before in
+    let p = from-back first .pre in
+    tour-old (p .1 .0) (p .1 .1) (named first) (c .if2 .taken) (c .before .before .left-after .ensures)
+
+new-row-right-requires : tie.Need-new-row-right-requires
+new-row-right-requires c κs =
+    let p = from-back (back c) .pre in
+    (grown-walkable (p .1 .0) (p .1 .1) (p .0), named (back c) .high)
 
 returns-3 : tie.Need-returns-3
-returns-3 c g = fails _ (c .before .longer-by-two .result) (c .before .longer-by-two .ensures) (c .if3 .taken) (longer (c .before .before .before .before .before .before .before .before .before .before .pre) (c .before .before .before .before .before .before .before .edge-of .ensures .0) g)
+returns-3 c g =
+    let first = c .before .before .before .before .before in
+    let s = from-back first in
+    let a = s .args in
+    let q = first .before .before .edge-of in
+    let new = c .before .new-row-right in
+    good-new (s .pre .1 .0) (s .pre .1 .1) g (q .ensures .0) (subst (NewRow (a .b .now) (a .k) (a .d) (a .u) (q .result)) (not-true (new .result) (c .if3 .taken)) (new .ensures))
+
+slice-write-marks : tie.Need-slice-write-marks
+slice-write-marks c =
+    let first = back-of-new c in
+    mark-of (from-back first .pre .1 .0) (first .before .before .edge-of .result) (named first)
+
+add-met : tie.Need-add-t16
+add-met c = omega (arith, met-small (from-back (back-of-new (c .before)) .pre .1 .0))
 
 returns-4 : tie.Need-returns-4
-returns-4 c g = omega (arith, rank (c .before .before .before .before .before .before .before .before .before .before .before .before .before .pre) (c .before .before .before .before .before .before .before .before .before .before .edge-of .ensures .0) g, c .if4 .taken, c .before .rank-of .ensures .0, c .before .before .count .ensures .0)
-
-returns-5 : tie.Need-returns-5
-returns-5 c g = c .if5 .taken (c .before .before .link-of .ensures .0 ∙ link (c .before .before .before .before .before .before .before .before .before .before .before .before .before .before .before .before .pre) (c .before .before .before .before .before .before .before .before .before .before .before .before .before .edge-of .ensures .0) g (c .before .link-found .result) (c .before .link-found .ensures))
-
-returns-6 : tie.Need-returns-6
-returns-6 c =
-    let a = c .before .before .before .before .before .before .before .before .before .before .before .before .before .before .before .before .before .args in
-    new (c .before .before .before .before .before .before .before .before .before .before .before .before .before .before .before .before .before .pre) (named (c .before .before .before .before .before .before .before .before .before .before .before .before)) (c .before .before .before .before .before .before .before .before .before .before .before .left-after .result) (c .before .before .before .before .before .before .before .before .before .before .before .before .before .before .edge-of .ensures .0) (c .before .before .before .before .before .before .before .before .before .if2 .left)
-    (holds _ (c .before .before .before .before .before .before .before .before .longer-by-two .result) (c .before .before .before .before .before .before .before .before .longer-by-two .ensures) (c .before .before .before .before .before .before .before .if3 .left))
-    (omega (arith, c .before .before .before .before .if4 .left, c .before .before .before .before .before .rank-of .ensures .0, c .before .before .before .before .before .before .count .ensures .0))
-    (subst (LinkFound (a .b .now) (a .k) (a .d) (a .u)) (sym (c .before .if5 .left) ∙ c .before .before .before .link-of .ensures .0) (c .before .before .link-found .ensures))
-    (c .before .before .before .before .before .before .before .before .before .before .before .left-after .ensures)
+returns-4 c =
+    let third = c .before in
+    let second = third .before .before in
+    let first = back second in
+    let s = from-back first in
+    let a = s .args in
+    let q = first .before .before .edge-of in
+    let new = third .before .new-row-right in
+    let r = subst (NewRow (a .b .now) (a .k) (a .d) (a .u) (q .result)) (not-false (new .result) (third .if3 .left)) (new .ensures) in
+    tour-new (s .pre .1 .0) (s .pre .1 .1) (named first) (q .ensures .0) (second .if2 .left) r (second .before .before .left-after .ensures)
 
 pub enter-spec : {M : Type 1} → statement M
 enter-spec =
     tie.close
     (tie.spec
-    (λ c κs. u-fits (c .before .before .pre))
-    (λ c κs. search needs)
+    edge-of-requires
+    (λ c κs. c .before .before .before .pre .1 .0 .ready .sized)
     returns
     left-after-requires
-    (λ c. q-marked (c .before .before .before .before .before .before .before .pre) (named (c .before .before)))
+    slice-read-if2
     returns-2
-    (λ c κs. (u-fits (c .before .before .before .before .before .before .before .before .pre), q-fits (c .before .before .before .before .before .before .before .before .pre) (named (c .before .before .before))))
+    new-row-right-requires
     returns-3
-    (λ c κs. header-fits (c .before .before .before .before .before .before .before .before .before .before .pre .0 .sized))
-    (λ c κs. q-fits (c .before .before .before .before .before .before .before .before .before .before .before .pre) (named (c .before .before .before .before .before .before)))
-    returns-4
-    (λ c κs. q-fits (c .before .before .before .before .before .before .before .before .before .before .before .before .before .pre) (named (c .before .before .before .before .before .before .before .before)))
-    (λ c κs. (c .before .before .before .before .before .before .before .before .before .before .before .before .before .before .pre .0 .sized, (c .before .before .before .before .before .before .before .before .before .before .before .before .before .before .pre .1 .0, u-chain (c .before .before .before .before .before .before .before .before .before .before .before .before .before .before .pre))))
-    returns-5
-    (λ c. q-marked (c .before .before .before .before .before .before .before .before .before .before .before .before .before .before .before .before .pre) (named (c .before .before .before .before .before .before .before .before .before .before .before)))
-    (λ c. omega (arith, met-room (c .before .before .before .before .before .before .before .before .before .before .before .before .before .before .before .before .before .pre)))
+    slice-write-marks
+    add-met
     (λ c. search needs)
-    returns-6)
+    returns-4)

@@ -1,10 +1,10 @@
--- `audit_tour::points_back` decides whether a row of the table names another row and a letter as what it is made of. Assumes nothing.
+-- `audit_edge::points_back` decides whether a row of the table names another row and a letter as what it is made of. Assumes nothing.
 use native.Mathlib.Omega.{arith}
 use borrow.Author.Needs.{needs}
 use Rattle.walk.proofs.Stores.{header-fits}
 use Rattle.transitions.proofs.Rows.{row-fits}
-use Rattle.audit_tour.proofs.points_back.Statement.{statement}
-use Rattle.audit_tour.proofs.points_back.Tie as tie
+use Rattle.audit_edge.proofs.points_back.Statement.{statement}
+use Rattle.audit_edge.proofs.points_back.Tie as tie
 
 pub points-back-spec : {M : Type 1} → statement M
 points-back-spec =

@@ -1,4 +1,4 @@
--- `audit_tour::longer_by_two` decides whether one row is longer than another by two: the signed lengths are equal exactly if the numbers that store them are. Assumes nothing.
+-- `audit_edge::longer_by_two` decides whether one row is longer than another by two: the signed lengths are equal exactly if the numbers that store them are. Assumes nothing.
 use Prim.Native.Nat.{ℕ, _+_}
 use native.Mathlib.Omega.{arith}
 use borrow.Author.Needs.{needs}
@@ -11,8 +11,8 @@ use Rattle.palindromes.specs.Word.{Word}
 use Rattle.store.specs.Layout.{cell, lengthIn}
 use Rattle.store.specs.Lengths.{Stored}
 use Rattle.store.proofs.Signed.{kept, length-fits, number-is}
-use Rattle.audit_tour.proofs.longer_by_two.Statement.{statement}
-use Rattle.audit_tour.proofs.longer_by_two.Tie as tie
+use Rattle.audit_edge.proofs.longer_by_two.Statement.{statement}
+use Rattle.audit_edge.proofs.longer_by_two.Tie as tie
 
 module _ (b : Word) (u q : ℕ) {short long around : ℤ} (x : (short ≡ lengthIn b u) × Stored short) (y : (long ≡ lengthIn b q) × Stored long)
     (p : (m : ℕ) → toZ w32 (ofZ w32 short) ≡ predℤ (pos m) → around ≡ predℤ (pos (m + 2))) where
