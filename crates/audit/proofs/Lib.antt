@@ -1,7 +1,2 @@
--- laws of the tests: what a store that passes each shows, and that a good store passes
-pub mod Decided
-pub mod Parts
-pub mod Marks
-pub mod Visit
-pub mod Rows
+-- a store that passes every test is good
 pub mod Whole

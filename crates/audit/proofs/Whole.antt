@@ -1,5 +1,5 @@
 -- A store that passes every test is good: the rows met are the rows in use, so the table covers the letters, and no edge of it leads anywhere else.
--- Rests on `covers-shows` of eertree; that a good store passes every test is in Parts.antt, Visit.antt and Rows.antt.
+-- Rests on `covers-shows` of eertree; that a good store passes every test is in `Parts` of audit_fixed, `Letter` of audit_tour and `Rows` of audit_rows.
 use Prim.Native.Nat.{ℕ, _+_, _-_, _≤_, _<_}
 use native.Mathlib.Omega.{arith}
 use mathlib.Core.Path.{_≡_, _∙_, subst, fun-ext}
@@ -10,13 +10,13 @@ use Rattle.palindromes.specs.Node.{spelt, around}
 use Rattle.palindromes.proofs.Lists.{same-test}
 use Rattle.eertree.specs.Covers.{NodeOf, Covers, EdgesEnd, withUsed}
 use Rattle.eertree.proofs.Covers.{covers-shows}
-use Rattle.store.specs.Layout.{capacityIn, edgeIn, outerIn, usedIn, lettersIn}
+use Rattle.store.specs.Layout.{capacityIn, edgeIn, usedIn, lettersIn}
 use Rattle.store.specs.Good.{ruleOf, tableIn, nodeIn, EndIs, RankIs, Good}
 use Rattle.store.proofs.Sizes.{used-below}
-use Rattle.audit.specs.Parts.{HeaderRight, FreePlaces, RootsRight, OrderRight}
-use Rattle.audit.specs.Tour.{metIn, Toured}
-use Rattle.audit.specs.Rows.{EdgeRight, nowhere, there, RowsRight, EndsRight}
-use Rattle.audit.specs.declared.tour.Tour.{Tour}
+use Rattle.audit_fixed.specs.Parts.{HeaderRight, FreePlaces, RootsRight, OrderRight}
+use Rattle.audit_tour.specs.Tour.{metIn, Toured}
+use Rattle.audit_rows.specs.Rows.{EdgeRight, nowhere, there, RowsRight, EndsRight}
+use Rattle.audit_tour.specs.declared.Tour.{Tour}
 
 module _ {b marks : Word} {t : Tour} (a : Toured b marks (lettersIn b) t) (rows : RowsRight b marks) where
   -- the rows met are the rows in use
@@ -43,7 +43,6 @@ module _ {b marks : Word} {t : Tour} (a : Toured b marks (lettersIn b) t) (rows 
 
   -- all parts together are a good store
   pub passed-good : HeaderRight b → allLetters (lettersIn b) ≡ true → FreePlaces b → RootsRight b → OrderRight b → EndsRight b t → Good b
-  unfolding outerIn
   passed-good h letters places roots order ends =
       record {
         sized = h .sized;
@@ -54,8 +53,8 @@ module _ {b marks : Word} {t : Tour} (a : Toured b marks (lettersIn b) t) (rows 
         ends = table-end ends;
         order = λ i l. order i l .order;
         rank = ranks;
-        free-rows = λ r f l u i. rows r l .free u f (omega arith) i;
-        root-letters = (roots .imaginary 3 (omega arith) (omega arith), roots .empty 3 (omega arith) (omega arith));
+        free-rows = λ r f l u i. rows r l .free u f i;
+        root-letters = (roots .imaginary .outer, roots .empty .outer);
         free-places = places;
       }
     where

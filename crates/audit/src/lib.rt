@@ -5,39 +5,34 @@
 // letters meets the rows in the order in which their palindromes first end, so that no link is
 // followed that was not tested before; and what no palindrome accounts for is tested last.
 ghost use Rattle.store.specs.Good.{Good};
-ghost use Rattle.audit.specs.Decides.{Decides};
-
-pub mod fixed;
-pub mod table;
-pub mod tour;
-
-use tour::Visit;
+ghost use Rattle.audit_fixed.specs.Decides.{Decides};
+use audit_tour::Visit;
 
 // Whether the store is good.
 pub fn is_good(b: &[u8]) -> bool
     ensures { λ r. ⌜ Decides r (Good (now (b .entry))) ⌝ }
 {
-    if !fixed::sized(b) {
+    if !audit_fixed::sized(b) {
         return false;
     }
-    if !fixed::letters_right(b) {
+    if !audit_fixed::letters_right(b) {
         return false;
     }
-    if !fixed::places_free(b) {
+    if !audit_fixed::places_free(b) {
         return false;
     }
-    if !fixed::roots_right(b) {
+    if !audit_fixed::roots_right(b) {
         return false;
     }
-    if !fixed::order_right(b) {
+    if !audit_fixed::order_right(b) {
         return false;
     }
     let mut marks = [0u8; 1026];
-    let Visit::Next(tour) = tour::replay(b, &mut marks) else {
+    let Visit::Next(tour) = audit_tour::replay(b, &mut marks) else {
         return false;
     };
-    if !table::ends_right(b, tour) {
+    if !audit_rows::ends_right(b, tour) {
         return false;
     }
-    table::rows_right(b, &marks)
+    audit_rows::rows_right(b, &marks)
 }

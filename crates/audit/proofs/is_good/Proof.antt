@@ -1,58 +1,89 @@
 -- `audit::is_good` decides whether a store is good: where a test fails a good store would have passed it, and where all pass the store is good (`Whole`). Assumes nothing.
 use borrow.Author.Needs.{needs}
+use mathlib.Core.Path.{_≡_}
+use mathlib.Core.Bool.{true}
+use Rattle.palindromes.specs.Word.{Word, allLetters}
 use Rattle.store.specs.Layout.{lettersIn}
 use Rattle.store.specs.Good.{Good}
-use Rattle.audit.specs.Parts.{HeaderRight}
-use Rattle.audit.specs.Tour.{Toured}
-use Rattle.audit.specs.Rows.{RowsRight}
-use Rattle.audit.specs.declared.tour.Visit.the-variants.{Next, Broken}
-use Rattle.audit.proofs.Decided.{holds, fails, carried}
-use Rattle.audit.proofs.Parts.{good-roots, good-order}
-use Rattle.audit.proofs.Marks.{blank}
-use Rattle.audit.proofs.Visit.{led}
-use Rattle.audit.proofs.Rows.{good-rows, good-ends}
+use Rattle.audit_fixed.specs.Parts.{HeaderRight, FreePlaces, RootsRight, OrderRight}
+use Rattle.audit_tour.specs.Tour.{Toured}
+use Rattle.audit_rows.specs.Rows.{RowsRight}
+use Rattle.audit_tour.specs.declared.Visit.the-variants.{Next, Broken}
+use Rattle.audit_fixed.proofs.Decided.{holds, fails, carried}
+use Rattle.audit_fixed.proofs.Parts.{good-roots, good-order}
+use Rattle.audit_tour.proofs.Marks.{blank}
+use Rattle.audit_tour.proofs.Letter.{led}
+use Rattle.audit_rows.proofs.Rows.{good-rows, good-ends}
 use Rattle.audit.proofs.Whole.{passed-good}
 use Rattle.audit.proofs.is_good.Statement.{statement}
 use Rattle.audit.proofs.is_good.Tie as tie
 
--- past the first test the sizes are right
-header : (c : tie.Else1) → HeaderRight (c .before .before .before .args .b .now)
-header c = holds _ (c .before .sized .result) (c .before .sized .ensures) (c .if1 .left)
+-- ---- the tests before the tour, seen from behind the last of them
 
--- past the tour all letters are read
-toured : (c : tie.After-known-told) → Toured (c .before .before .before .before .before .before .before .before .before .before .before .before .before .before .before .before .before .args .b .now) (c .before .before .before .before .replay .last .1 .0) (lettersIn (c .before .before .before .before .before .before .before .before .before .before .before .before .before .before .before .before .before .args .b .now)) (c .before .tour .given .0 .0)
-toured c =
-    let b = c .before .before .before .before .before .before .before .before .before .before .before .before .before .before .before .before .before .args .b .now in
-    led b (c .before .before .before .before .replay .last .1 .0) (lettersIn b) (c .before .before .before .before .replay .result) (Next (c .before .tour .given .0 .0)) (c .before .before .before .before .replay .ensures) (c .before .tour .given .1)
+abbrev past-roots : tie.Else5 → tie.Else4
+past-roots c = c .before .before
+
+abbrev past-places : tie.Else5 → tie.Else3
+past-places c = past-roots c .before .before
+
+abbrev past-letters : tie.Else5 → tie.Else2
+past-letters c = past-places c .before .before
+
+abbrev past-sizes : tie.Else5 → tie.Else1
+past-sizes c = past-letters c .before .before
+
+abbrev store : tie.Else5 → Word
+store c = past-sizes c .before .before .before .args .b .now
+
+-- what each of them has shown
+sizes : (c : tie.Else1) → HeaderRight (c .before .before .before .args .b .now)
+sizes c = holds _ (c .before .sized .result) (c .before .sized .ensures) (c .if1 .left)
+
+letters : (c : tie.Else5) → allLetters (lettersIn (store c)) ≡ true
+letters c = let p = past-letters c in holds _ (p .before .letters-right .result) (p .before .letters-right .ensures) (p .if2 .left)
+
+places : (c : tie.Else5) → FreePlaces (store c)
+places c = let p = past-places c in holds _ (p .before .places-free .result) (p .before .places-free .ensures) (p .if3 .left)
+
+roots : (c : tie.Else5) → RootsRight (store c)
+roots c = let p = past-roots c in holds _ (p .before .roots-right .result) (p .before .roots-right .ensures) (p .if4 .left)
+
+order : (c : tie.Else5) → OrderRight (store c)
+order c = holds _ (c .before .order-right .result) (c .before .order-right .ensures) (c .if5 .left)
 
 replay-requires : tie.Need-replay-requires
-replay-requires c κs = (
-  record {
-    sized = header (c .before .before .before .before .before .before .before .before .before) .sized;
-    letters = holds _ (c .before .before .before .before .before .before .before .before .letters-right .result) (c .before .before .before .before .before .before .before .before .letters-right .ensures) (c .before .before .before .before .before .before .before .if2 .left);
-    roots = holds _ (c .before .before .before .before .roots-right .result) (c .before .before .before .before .roots-right .ensures) (c .before .before .before .if4 .left);
-  },
-  blank,
-)
+replay-requires c κs = let f = c .before in (record { sized = sizes (past-sizes f) .sized; letters = letters f; roots = roots f }, blank)
+
+-- ---- the tour and the tests after it
 
 returns-6 : tie.Need-returns-6
 returns-6 c =
-    let b = c .before .before .before .before .before .before .before .before .before .before .before .before .before .before .before .before .args .b .now in
-    led b (c .before .before .before .replay .last .1 .0) (lettersIn b) (c .before .before .before .replay .result) Broken (c .before .before .before .replay .ensures) (c .enum-told .given .1)
+    let v = c .before .before .before in
+    let b = store (v .before .before) in
+    led b (v .replay .last .1 .0) (lettersIn b) (v .replay .result) Broken (v .replay .ensures) (c .enum-told .given .1)
+
+abbrev past-tour : tie.After-known-told → tie.After-replay
+past-tour c = c .before .before .before .before
+
+abbrev past-order : tie.After-known-told → tie.Else5
+past-order c = past-tour c .before .before
+
+-- all letters are read
+toured : (c : tie.After-known-told) → Toured (store (past-order c)) (past-tour c .replay .last .1 .0) (lettersIn (store (past-order c))) (c .before .tour .given .0 .0)
+toured c =
+    let v = past-tour c .replay in
+    let b = store (past-order c) in
+    led b (v .last .1 .0) (lettersIn b) (v .result) (Next (c .before .tour .given .0 .0)) (v .ensures) (c .before .tour .given .1)
 
 returns-8 : tie.Need-returns-8
 returns-8 c =
-    let b = c .before .before .before .before .before .before .before .before .before .before .before .before .before .before .before .before .before .before .before .before .before .args .b .now in
-    let a = toured (c .before .before .before .before) in
-    carried (RowsRight b (c .before .before .before .before .before .before .before .before .replay .last .1 .0)) (Good b) (c .rows-right .result) (c .rows-right .ensures)
-    (λ rows.
-    passed-good a rows (header (c .before .before .before .before .before .before .before .before .before .before .before .before .before .before .before .before .before .before))
-    (holds _ (c .before .before .before .before .before .before .before .before .before .before .before .before .before .before .before .before .before .letters-right .result) (c .before .before .before .before .before .before .before .before .before .before .before .before .before .before .before .before .before .letters-right .ensures) (c .before .before .before .before .before .before .before .before .before .before .before .before .before .before .before .before .if2 .left))
-    (holds _ (c .before .before .before .before .before .before .before .before .before .before .before .before .before .before .before .places-free .result) (c .before .before .before .before .before .before .before .before .before .before .before .before .before .before .before .places-free .ensures) (c .before .before .before .before .before .before .before .before .before .before .before .before .before .before .if3 .left))
-    (holds _ (c .before .before .before .before .before .before .before .before .before .before .before .before .before .roots-right .result) (c .before .before .before .before .before .before .before .before .before .before .before .before .before .roots-right .ensures) (c .before .before .before .before .before .before .before .before .before .before .before .before .if4 .left))
-    (holds _ (c .before .before .before .before .before .before .before .before .before .before .before .order-right .result) (c .before .before .before .before .before .before .before .before .before .before .before .order-right .ensures) (c .before .before .before .before .before .before .before .before .before .before .if5 .left))
-    (holds _ (c .before .before .before .ends-right .result) (c .before .before .before .ends-right .ensures) (c .before .before .if6 .left)))
-    (λ g. good-rows g a)
+    let e = c .before .before in
+    let t = e .before .before in
+    let f = past-order t in
+    let ends = holds _ (e .before .ends-right .result) (e .before .ends-right .ensures) (e .if6 .left) in
+    carried (RowsRight (store f) (past-tour t .replay .last .1 .0)) (Good (store f)) (c .rows-right .result) (c .rows-right .ensures)
+    (λ rows. passed-good (toured t) rows (sizes (past-sizes f)) (letters f) (places f) (roots f) (order f) ends)
+    (λ g. good-rows g (toured t))
 
 pub is-good-spec : {M : Type 1} → statement M
 is-good-spec =
@@ -60,21 +91,21 @@ is-good-spec =
     (tie.spec
     (λ c κs. search needs)
     (λ c g. fails _ (c .before .sized .result) (c .before .sized .ensures) (c .if1 .taken) (record { sized = g .sized; reading = g .reading }))
-    (λ c κs. header c .sized)
+    (λ c κs. sizes c .sized)
     (λ c g. fails _ (c .before .letters-right .result) (c .before .letters-right .ensures) (c .if2 .taken) (g .letters))
-    (λ c κs. header (c .before .before) .sized)
+    (λ c κs. sizes (c .before .before) .sized)
     (λ c g. fails _ (c .before .places-free .result) (c .before .places-free .ensures) (c .if3 .taken) (g .free-places))
-    (λ c κs. header (c .before .before .before .before) .sized)
+    (λ c κs. sizes (c .before .before .before .before) .sized)
     (λ c g. fails _ (c .before .roots-right .result) (c .before .roots-right .ensures) (c .if4 .taken) (good-roots g))
-    (λ c κs. header (c .before .before .before .before .before .before) .sized)
+    (λ c κs. sizes (c .before .before .before .before .before .before) .sized)
     (λ c g. fails _ (c .before .order-right .result) (c .before .order-right .ensures) (c .if5 .taken) (good-order g))
     (λ c. search needs)
     replay-requires
     (λ c. search needs)
     (λ c. search needs)
     returns-6
-    (λ c κs. header (c .before .before .before .before .before .before .before .before .before .before .before .before .before .before) .sized)
+    (λ c κs. sizes (past-sizes (past-order c)) .sized)
     (λ c g. fails _ (c .before .ends-right .result) (c .before .ends-right .ensures) (c .if6 .taken) (good-ends g (toured (c .before .before))))
     (λ c. search needs)
-    (λ c κs. (header (c .before .before .before .before .before .before .before .before .before .before .before .before .before .before .before .before .before) .sized, toured (c .before .before .before) .long))
+    (λ c κs. let t = c .before .before .before in (sizes (past-sizes (past-order t)) .sized, toured t .long))
     returns-8)

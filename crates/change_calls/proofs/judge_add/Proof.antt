@@ -5,7 +5,7 @@ use borrow.Author.Tests.{not-true, not-false}
 use native.Mathlib.Omega.{arith}
 use Rattle.walk.proofs.Stores.{header-fits}
 use Rattle.outcome.specs.Verdict.{damaged}
-use Rattle.audit.proofs.Decided.{holds, fails}
+use Rattle.audit_fixed.proofs.Decided.{holds, fails}
 use Rattle.change_calls.proofs.Changing.{not-letter, is-full, can-add}
 use Rattle.change_calls.proofs.judge_add.Statement.{statement}
 use Rattle.change_calls.proofs.judge_add.Tie as tie

@@ -3,7 +3,7 @@ use mathlib.Core.Path.{refl, sym, _∙_}
 use borrow.Author.Needs.{needs}
 use Rattle.walk.proofs.Stores.{header-fits}
 use Rattle.outcome.specs.Verdict.{damaged}
-use Rattle.audit.proofs.Decided.{holds, fails}
+use Rattle.audit_fixed.proofs.Decided.{holds, fails}
 use Rattle.change_calls.proofs.Changing.{no-letter, can-remove}
 use Rattle.change_calls.proofs.judge_remove.Statement.{statement}
 use Rattle.change_calls.proofs.judge_remove.Tie as tie

@@ -3,7 +3,7 @@ use mathlib.Core.Path.{refl, sym, _∙_}
 use borrow.Author.Needs.{needs}
 use borrow.Author.Tests.{not-true, not-false}
 use Rattle.outcome.specs.Verdict.{damaged}
-use Rattle.audit.proofs.Decided.{holds, fails}
+use Rattle.audit_fixed.proofs.Decided.{holds, fails}
 use Rattle.find_call.proofs.Finding.{no-piece, no-text, can-find}
 use Rattle.find_call.proofs.judge_find.Statement.{statement}
 use Rattle.find_call.proofs.judge_find.Tie as tie

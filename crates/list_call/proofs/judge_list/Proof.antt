@@ -5,7 +5,7 @@ use borrow.Author.Needs.{needs}
 use borrow.Author.Tests.{not-true, not-false}
 use Rattle.outcome.specs.Verdict.{damaged}
 use Rattle.outcome.proofs.Fits.{few}
-use Rattle.audit.proofs.Decided.{holds, fails}
+use Rattle.audit_fixed.proofs.Decided.{holds, fails}
 use Rattle.list_call.proofs.Listing.{bad-name, scratch-short, out-short, can-list}
 use Rattle.list_call.proofs.judge_list.Statement.{statement}
 use Rattle.list_call.proofs.judge_list.Tie as tie

@@ -2,7 +2,7 @@
 use mathlib.Core.Path.{refl, sym, _∙_}
 use borrow.Author.Needs.{needs}
 use Rattle.outcome.specs.Verdict.{damaged}
-use Rattle.audit.proofs.Decided.{holds, fails}
+use Rattle.audit_fixed.proofs.Decided.{holds, fails}
 use Rattle.longest_calls.proofs.Asking.{no-record, some-record}
 use Rattle.longest_calls.proofs.judge_longest.Statement.{statement}
 use Rattle.longest_calls.proofs.judge_longest.Tie as tie

@@ -3,7 +3,7 @@ use mathlib.Core.Path.{refl}
 use native.Mathlib.Omega.{arith}
 use borrow.Author.Needs.{needs}
 use Rattle.outcome.specs.Verdict.{damaged}
-use Rattle.audit.proofs.Decided.{holds, fails}
+use Rattle.audit_fixed.proofs.Decided.{holds, fails}
 use Rattle.record_calls.proofs.Asking.{outside, inside}
 use Rattle.record_calls.proofs.judge_letter.Statement.{statement}
 use Rattle.record_calls.proofs.judge_letter.Tie as tie

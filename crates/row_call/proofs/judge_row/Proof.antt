@@ -3,7 +3,7 @@ use mathlib.Core.Path.{refl, sym, _∙_}
 use borrow.Author.Needs.{needs}
 use borrow.Author.Tests.{not-true, not-false}
 use Rattle.outcome.specs.Verdict.{damaged}
-use Rattle.audit.proofs.Decided.{holds, fails}
+use Rattle.audit_fixed.proofs.Decided.{holds, fails}
 use Rattle.row_call.proofs.Asking.{used, unused}
 use Rattle.row_call.proofs.judge_row.Statement.{statement}
 use Rattle.row_call.proofs.judge_row.Tie as tie

@@ -3,7 +3,7 @@ use mathlib.Core.Path.{refl, sym, _∙_}
 use borrow.Author.Needs.{needs}
 use borrow.Author.Tests.{not-true, not-false}
 use Rattle.outcome.specs.Verdict.{damaged}
-use Rattle.audit.proofs.Decided.{holds, fails}
+use Rattle.audit_fixed.proofs.Decided.{holds, fails}
 use Rattle.spell_call.proofs.Spelling.{free-row, spelt-short, can-spell}
 use Rattle.spell_call.proofs.judge_spell.Statement.{statement}
 use Rattle.spell_call.proofs.judge_spell.Tie as tie

@@ -1,4 +1,0 @@
-pub mod Decides
-pub mod Parts
-pub mod Tour
-pub mod Rows

@@ -1,0 +1,2 @@
+-- laws of the row that an edge leads to
+pub mod Edge

@@ -1,0 +1,3 @@
+-- laws of the tests that say nothing of palindromes: how a test's answer is used, and that a good store passes
+pub mod Decided
+pub mod Parts

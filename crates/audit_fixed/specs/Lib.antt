@@ -1,0 +1,2 @@
+pub mod Decides
+pub mod Parts

@@ -1,0 +1,161 @@
+// The parts of a good store that say nothing of its palindromes: the sizes, the letters, the roots
+// and the order of the rows.
+ghost use mathlib.Core.Path.{_≡_};
+ghost use mathlib.Core.Bool.{true};
+ghost use Prim.Native.Nat.{_+_, _<_};
+ghost use Rattle.palindromes.specs.Word.{allLetters};
+ghost use Rattle.store.specs.Layout.{capacityIn, lettersIn};
+ghost use Rattle.store.specs.Lengths.{Stored};
+ghost use Rattle.store.specs.Good.{Sized, OrderIs, RankIs};
+ghost use Rattle.audit_fixed.specs.Decides.{Decides};
+ghost use Rattle.audit_fixed.specs.Parts.{HeaderRight, FreePlaces, RootRight, RootsRight, OrderRight};
+use alphabet::all_letters;
+use store::header;
+use store::rows;
+use store::rows::Row;
+use walk::frame::frame_of;
+
+// Whether the store has the sizes that its header names, and the reading of a plain record.
+pub fn sized(b: &[u8]) -> bool
+    ensures { λ r. ⌜ Decides r (HeaderRight (now (b .entry))) ⌝ }
+{
+    if b.len() < 48 {
+        return false;
+    }
+    let capacity = header::capacity(b);
+    if capacity < 1 {
+        return false;
+    }
+    if 1024 < capacity {
+        return false;
+    }
+    if b.len() < 48 * capacity + 256 {
+        return false;
+    }
+    if capacity < header::size(b) {
+        return false;
+    }
+    if header::reading(b) != 0 {
+        return false;
+    }
+    true
+}
+
+// Whether every letter is one.
+pub fn letters_right(b: &[u8]) -> bool
+    requires { ⌜ Sized (now b) ⌝ }
+    ensures { λ r. ⌜ Decides r (allLetters (lettersIn (now (b .entry))) ≡ true) ⌝ }
+{
+    let frame = frame_of(b);
+    let base = frame.base;
+    let end = base + frame.n;
+    all_letters(&b[base..end])
+}
+
+// Whether the places after the last letter are zero.
+pub fn places_free(b: &[u8]) -> bool
+    requires { ⌜ Sized (now b) ⌝ }
+    ensures { λ r. ⌜ Decides r (FreePlaces (now (b .entry))) ⌝ }
+{
+    let frame = frame_of(b);
+    let base = frame.base;
+    let capacity = frame.capacity;
+    let mut i = frame.n;
+    while i < capacity {
+        if b[base + i] != 0 {
+            return false;
+        }
+        i += 1;
+    }
+    true
+}
+
+// Whether row r, edges apart, is that of a root of the given length: both roots have the imaginary
+// string for their link and their inner row, and no letter.
+pub fn root_right(b: &[u8], r: usize, length: i32) -> bool
+    requires { ⌜ Sized (now b) ⌝ }
+    requires { ⌜ (r < 2) × Stored length ⌝ }
+    ensures { λ v. ⌜ Decides v (RootRight (now (b .entry)) r length) ⌝ }
+{
+    if rows::length_of(b, r) != length {
+        return false;
+    }
+    if rows::link_of(b, r) != Row::IMAGINARY {
+        return false;
+    }
+    if rows::inner_of(b, r) != Row::IMAGINARY {
+        return false;
+    }
+    if rows::outer_of(b, r) != 0 {
+        return false;
+    }
+    true
+}
+
+// Whether the rows of the roots are as fixed, edges apart.
+pub fn roots_right(b: &[u8]) -> bool
+    requires { ⌜ Sized (now b) ⌝ }
+    ensures { λ r. ⌜ Decides r (RootsRight (now (b .entry))) ⌝ }
+{
+    if !root_right(b, Row::IMAGINARY, Row::IMAGINARY_LENGTH) {
+        return false;
+    }
+    if !root_right(b, Row::EMPTY, Row::EMPTY_LENGTH) {
+        return false;
+    }
+    true
+}
+
+// Whether place i of the order holds a row from 2 on whose rank is i.
+pub fn order_holds(b: &[u8], i: usize) -> bool
+    requires { ⌜ Sized (now b) ⌝ }
+    requires { ⌜ i < capacityIn (now b) ⌝ }
+    ensures { λ v. ⌜ Decides v (OrderIs (now (b .entry)) i) ⌝ }
+{
+    let row = rows::order_of(b, i);
+    if row < 2 {
+        return false;
+    }
+    if header::capacity(b) + 2 <= row {
+        return false;
+    }
+    if rows::rank_of(b, row) != i {
+        return false;
+    }
+    true
+}
+
+// Whether row r has a rank, and the place of that rank in the order holds r.
+pub fn rank_holds(b: &[u8], r: usize) -> bool
+    requires { ⌜ Sized (now b) ⌝ }
+    requires { ⌜ r < capacityIn (now b) + 2 ⌝ }
+    ensures { λ v. ⌜ Decides v (RankIs (now (b .entry)) r) ⌝ }
+{
+    let rank = rows::rank_of(b, r);
+    if header::capacity(b) <= rank {
+        return false;
+    }
+    if rows::order_of(b, rank) != r {
+        return false;
+    }
+    true
+}
+
+// Whether the order lists the rows from 2 on, each once, and the ranks are the places in it.
+pub fn order_right(b: &[u8]) -> bool
+    requires { ⌜ Sized (now b) ⌝ }
+    ensures { λ v. ⌜ Decides v (OrderRight (now (b .entry))) ⌝ }
+{
+    let capacity = header::capacity(b);
+    let mut i = 0;
+    while i < capacity {
+        if !order_holds(b, i) {
+            return false;
+        }
+        if !rank_holds(b, i + 2) {
+            return false;
+        }
+        i += 1;
+    }
+    true
+}

@@ -1,0 +1,2 @@
+-- laws of the rows once the tour is over
+pub mod Rows

@@ -1,0 +1,116 @@
+-- The rows once the tour is over. What is asked of every letter is asked of the four; what is asked of a row goes by cases, and each case of the row's test decides it; and in a good store every row passes, and so do the header's numbers: a row in use
+-- holds a palindrome of the letters, the tour met a row that holds it, and there is only one.
+-- Rests on the laws of a good store and of the rows met (`Toured`).
+use Prim.Native.Nat.{ℕ, _+_, _≤_, _<_}
+use native.Mathlib.Omega.{arith}
+use mathlib.Core.Path.{_≡_, refl, sym, _∙_, subst}
+use mathlib.Core.Bool.{Bool, true, false, _||_}
+use mathlib.Core.Logic.{⊎-elim}
+use lib.Dec.{eqb}
+use lib.ListN.{getD}
+use borrow.Author.Tests.{eqb-true, lt-ltb, le-ltb}
+use Rattle.palindromes.specs.Word.{Word, isLetter, member}
+use Rattle.palindromes.specs.Record.{palindromes}
+use Rattle.palindromes.specs.End.{atLeft, atRight, longestAt}
+use Rattle.palindromes.specs.Node.{Node, imaginary, spelt, around}
+use Rattle.palindromes.proofs.Tests.{false-not-true, decided}
+use Rattle.palindromes.proofs.Lists.{either-true}
+use Rattle.eertree.specs.Covers.{NodeOf}
+use Rattle.eertree.proofs.Rows.{imaginary-row}
+use Rattle.store.specs.Layout.{capacityIn, countIn, endRow, edgeIn, rankIn, usedIn, lettersIn}
+use Rattle.store.specs.Good.{ruleOf, nodeIn, Good}
+use Rattle.transitions.proofs.Rows.{covers, used-root, used-is}
+use Rattle.audit_fixed.specs.Decides.{Decides}
+use Rattle.audit_tour.specs.Tour.{metIn, Toured}
+use Rattle.audit_rows.specs.Rows.{ZeroCells, EdgeRight, nowhere, there, EdgesRight, RowRight, RowsRight, EndsRight}
+use Rattle.audit_tour.specs.declared.Tour.{Tour}
+use Rattle.audit_fixed.proofs.Decided.{carried}
+use Rattle.audit_tour.proofs.Marks.{met-root, met-marked, met-unmarked}
+use Rattle.audit_edge.proofs.Edge.{good-names}
+
+-- ---- letters
+
+-- what holds of each of the four letters holds of every letter
+pub letter-cases : (P : ℕ → Type 0) → P 65 → P 67 → P 71 → P 84 → (x : ℕ) → isLetter x ≡ true → P x
+unfolding isLetter
+letter-cases P a c g t x h = ⊎-elim acg (λ e. is 84 e t) (either-true (eqb x 65 || eqb x 67 || eqb x 71) (eqb x 84) h)
+  where
+    is : (y : ℕ) → eqb x y ≡ true → P y → P x
+    is y e p = subst P (sym (eqb-true x y e)) p
+
+    ac : (eqb x 65 || eqb x 67) ≡ true → P x
+    ac k = ⊎-elim (λ e. is 65 e a) (λ e. is 67 e c) (either-true (eqb x 65) (eqb x 67) k)
+
+    acg : (eqb x 65 || eqb x 67 || eqb x 71) ≡ true → P x
+    acg k = ⊎-elim ac (λ e. is 71 e g) (either-true (eqb x 65 || eqb x 67) (eqb x 71) k)
+
+-- ---- the cases of a row
+
+module _ (b marks : Word) (r : ℕ) where
+  -- of a root the edges are asked
+  pub root-decided : r < 2 → (t : Bool) → Decides t (EdgesRight b marks r) → Decides t (RowRight b marks r)
+  root-decided l t d =
+      let u = used-root b r l in
+      carried (EdgesRight b marks r) (RowRight b marks r) t d
+      (λ e. record { met = λ v. met-root marks r l; edges = λ v. e; free = λ f. absurd (false-not-true f u) }) (λ h. h .edges u)
+
+  module _ (l : 2 ≤ r) (k : r < capacityIn b + 2) where
+    -- of a free row that it is zero
+    pub free-decided : countIn b ≤ rankIn b r → (t : Bool) → Decides t (ZeroCells b r 8) → Decides t (RowRight b marks r)
+    free-decided m t d =
+        let u = used-is b r l k ∙ le-ltb (rankIn b r) (countIn b) m in
+        carried (ZeroCells b r 8) (RowRight b marks r) t d
+        (λ z. record { met = λ v. absurd (false-not-true u v); edges = λ v. absurd (false-not-true u v); free = λ v. z }) (λ h. h .free u)
+
+    module _ (m : rankIn b r < countIn b) where
+      in-use : usedIn b r ≡ true
+      in-use = used-is b r l k ∙ lt-ltb (rankIn b r) (countIn b) m
+
+      -- and of any other its mark and its edges
+      pub unmarked-fails : (getD marks r 0 ≡ 1 → ⊥) → RowRight b marks r → ⊥
+      unmarked-fails n h = false-not-true (met-unmarked marks r l n) (h .met in-use)
+
+      pub used-decided : getD marks r 0 ≡ 1 → (t : Bool) → Decides t (EdgesRight b marks r) → Decides t (RowRight b marks r)
+      used-decided n t d =
+          carried (EdgesRight b marks r) (RowRight b marks r) t d
+          (λ e. record { met = λ v. met-marked marks r n; edges = λ v. e; free = λ f. absurd (false-not-true f in-use) }) (λ h. h .edges in-use)
+
+-- ---- in a good store
+
+module _ {b marks : Word} {t : Tour} (g : Good b) (a : Toured b marks (lettersIn b) t) where
+  -- every row in use was met
+  pub good-met : (r : ℕ) → usedIn b r ≡ true → metIn marks r ≡ true
+  good-met r u = by (nodeIn b r) refl
+    where
+      by : (v : Node) → nodeIn b r ≡ v → metIn marks r ≡ true
+      by imaginary e = subst (λ (q : ℕ). metIn marks q ≡ true) (sym (imaginary-row (covers g) r u e)) (met-root marks 0 (omega arith))
+      by (spelt w) e =
+          let n : NodeOf (ruleOf b) (lettersIn b) (spelt w) = subst (NodeOf (ruleOf b) (lettersIn b)) e (covers g .each-row r u) in
+          let f = a .covers .each-word w (n .0) (n .1) in
+          subst (λ (q : ℕ). metIn marks q ≡ true) (g .table .one-row (f .0) r (a .used (f .0) (f .1)) u (f .2 ∙ sym e)) (f .1)
+
+  -- its edges lead to such rows, or nowhere
+  good-edge : (r c : ℕ) → usedIn b r ≡ true → isLetter c ≡ true → EdgeRight b marks r c
+  good-edge r c u l = ⊎-elim found none (decided (member (around (ruleOf b) c (nodeIn b r)) (palindromes (ruleOf b) (lettersIn b))))
+    where
+      found : member (around (ruleOf b) c (nodeIn b r)) (palindromes (ruleOf b) (lettersIn b)) ≡ true → EdgeRight b marks r c
+      found m =
+          let e = g .table .edge-is r c u l .there m in
+          there (good-names g r c (edgeIn b r c) u (e .0) (e .1)) (good-met (edgeIn b r c) (e .0))
+
+      none : member (around (ruleOf b) c (nodeIn b r)) (palindromes (ruleOf b) (lettersIn b)) ≡ false → EdgeRight b marks r c
+      none m = nowhere (g .table .edge-is r c u l .nowhere m)
+
+  -- so every row is right
+  pub good-rows : RowsRight b marks
+  good-rows r l = record { met = good-met r; edges = λ u c k. good-edge r c u k; free = λ u f h. g .free-rows r f l u h }
+
+  -- and the header has what the tour found
+  pub good-ends : EndsRight b t
+  unfolding longestAt
+  good-ends =
+      record {
+        count = g .count-is ∙ sym (a .met-is);
+        left = g .table .one-row (endRow b atLeft) (t .left) (g .ends atLeft .used) (a .used (t .left) (a .left-met)) (g .ends atLeft .holds ∙ sym (a .left-holds));
+        right = g .table .one-row (endRow b atRight) (t .row) (g .ends atRight .used) (a .used (t .row) (a .row-met)) (g .ends atRight .holds ∙ sym (a .row-holds));
+      }

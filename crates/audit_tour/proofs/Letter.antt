@@ -1,0 +1,376 @@
+-- The tour letter by letter. Where no letter is read, the roots cover what is read (`tour-start`). Then the walk finds the row that the next letter grows, or none (`tour-grows`,
+-- `tour-none`); along its edge the tour comes to a row met before (`tour-old`) or to one that is right and is now met (`tour-new`). In a good store every test on the way
+-- passes (`good-back`, `good-new`), since each row met is in use and holds what it holds in the whole table.
+-- Rests on the replay of eertree (`read-none`, `read-old`, `read-new`, `step-there`), on what a walk finds (`Found` of walk) and on the laws of a good store.
+use Prim.Native.Nat.{ℕ, zero, suc, _+_, _≤_, _<_}
+use native.Mathlib.Numerals.{add-one}
+use native.Mathlib.Omega.{arith}
+use mathlib.Core.Path.{_≡_, refl, sym, ap, _∙_, subst}
+use mathlib.Core.Bool.{Bool, true, false, cond}
+use mathlib.Core.Logic.{⊎-elim}
+use mathlib.Core.List.{[], _∷_, _++_}
+use lib.Dec.{eqb, leb}
+use lib.IntN.{pos, predℤ}
+use lib.ListN.{length, getD, drop, set, length-append, length-set, take-append-drop}
+use lib.Seq.{length-take-le, take-suc}
+use borrow.Author.Tests.{eqb-true, eq-eqb, ne-eqb, leb-true, leb-false, lt-ltb}
+use Rattle.palindromes.specs.Word.{Word, isLetter}
+use Rattle.palindromes.specs.Palindrome.{SelfInverse, Symmetric}
+use Rattle.palindromes.specs.Place.{Stands, Suffix, stands}
+use Rattle.palindromes.specs.Record.{count, longestSuffix, longestPrefix}
+use Rattle.palindromes.specs.End.{atLeft, atRight, longestAt}
+use Rattle.palindromes.specs.Node.{Node, imaginary, spelt, linkOf, around}
+use Rattle.palindromes.specs.Eertree.{Table, nodeFrom}
+use Rattle.palindromes.proofs.Tests.{not-true-false}
+use Rattle.palindromes.proofs.Lists.{either-true, left-is, right-is}
+use Rattle.palindromes.proofs.Words.{suffix-length, suffix-stands, suffix-append, suffix-trans, suffix-snoc-back, prefix-stands, stands-of-empty}
+use Rattle.palindromes.proofs.Longest.{longest-suffix, longest-prefix-snoc, longest-empty}
+use Rattle.palindromes.proofs.Growth.{link-of-letter, link-of-framed, link-stood}
+use Rattle.palindromes.proofs.Places.{stands-true, stands-is, stands-empty}
+use Rattle.palindromes.proofs.Palindromes.{count-empty, count-snoc, count-length}
+use Rattle.palindromes.proofs.Across.{whole-at, whole-test}
+use Rattle.eertree.specs.Covers.{NodeOf, Covers, withUsed}
+use Rattle.eertree.proofs.Covers.{around-not-empty}
+use Rattle.eertree.proofs.Rows.{reachOf, reach-length, imaginary-row}
+use Rattle.eertree.proofs.Nodes.{root-zero, root-one, node-from-step, node-from}
+use Rattle.eertree.proofs.Replay.{Fits, step-there, read-none, read-old, read-fresh, read-new}
+use Rattle.store.specs.Layout.{cell, capacityIn, countIn, readingIn, lengthIn, linkIn, innerIn, outerIn, edgeIn, rankIn, usedIn, lettersIn}
+use Rattle.store.specs.Good.{ruleOf, tableIn, nodeIn, Good}
+use Rattle.store.proofs.Sizes.{rule-inverse, letters-length}
+use Rattle.walk.specs.Frame.{Frames}
+use Rattle.walk.specs.Walk.{Chain, Meets, Stepped, grown, ended, Found}
+use Rattle.walk.specs.declared.frame.Frame.{Frame}
+use Rattle.walk.specs.declared.Walked.{Walked}
+use Rattle.walk.specs.declared.Walked.the-variants.{At, Nothing}
+use Rattle.walk.proofs.Found.{stored-reach, chain, meets-longest, meets-link}
+use Rattle.walk.proofs.Stores.{rows-fit}
+use Rattle.alphabet.proofs.Letters.{letter-of}
+use Rattle.transitions.proofs.Rows.{covers, used-root, used-is, used-rank, length-row}
+use Rattle.transitions.proofs.Start.{Roots, roots-cover}
+use Rattle.audit_edge.specs.Edge.{PointsBack, Walkable, LinkFound, alone, within, NewRow, right, not-longer, not-used, not-linked}
+use Rattle.audit_edge.proofs.Edge.{good-names}
+use Rattle.audit_tour.specs.Tour.{Ready, readIn, metIn, Blank, leftAfter, Toured, Reading, Grows, Visited}
+use Rattle.audit_tour.specs.declared.Tour.{Tour}
+use Rattle.audit_tour.specs.declared.Visit.{Visit}
+use Rattle.audit_tour.proofs.Marks.{met-root, met-marked, met-unmarked, blank-met, met-set}
+
+-- ---- words
+
+module _ (σ : ℕ → ℕ) (p : Word) (d : ℕ) where
+  -- the count stays where the longest palindrome with a letter more stood before, and else rises by one
+  count-old : Stands (longestSuffix σ (p ++ (d ∷ []))) p → count σ (p ++ (d ∷ [])) ≡ count σ p
+  count-old h = omega (arith, rw (stands-is (longestSuffix σ (p ++ (d ∷ []))) p h) at (count-snoc σ p d))
+
+  count-new : (Stands (longestSuffix σ (p ++ (d ∷ []))) p → ⊥) → count σ (p ++ (d ∷ [])) ≡ count σ p + 1
+  count-new h =
+      let n : stands (longestSuffix σ (p ++ (d ∷ []))) p ≡ false = not-true-false (stands (longestSuffix σ (p ++ (d ∷ []))) p) (λ e. h (stands-true (longestSuffix σ (p ++ (d ∷ []))) p e)) in
+      omega (arith, rw n at (count-snoc σ p d))
+
+  module _ (inv : SelfInverse σ) where
+    -- the longest that begins the letters stays, unless the longest that ends them is all of them
+    prefix-kept : length (longestSuffix σ (p ++ (d ∷ []))) ≤ length p → longestPrefix σ (p ++ (d ∷ [])) ≡ longestPrefix σ p
+    unfolding longestAt
+    prefix-kept h =
+        let n = whole-test σ inv atRight (p ++ (d ∷ [])) ∙ ne-eqb (length (longestSuffix σ (p ++ (d ∷ [])))) (length (p ++ (d ∷ []))) (λ e. omega (arith, length-append p (d ∷ []))) in
+        longest-prefix-snoc σ p d ∙ ap (λ (v : Bool). cond v (p ++ (d ∷ [])) (longestPrefix σ p)) n
+
+    prefix-whole : length p < length (longestSuffix σ (p ++ (d ∷ []))) → longestPrefix σ (p ++ (d ∷ [])) ≡ longestSuffix σ (p ++ (d ∷ []))
+    unfolding longestAt
+    prefix-whole h =
+        let l = suffix-length (longest-suffix σ (p ++ (d ∷ [])) .suffix) in
+        let y = whole-test σ inv atRight (p ++ (d ∷ [])) ∙ eq-eqb (length (longestSuffix σ (p ++ (d ∷ [])))) (length (p ++ (d ∷ []))) (omega (arith, l, length-append p (d ∷ []))) in
+        longest-prefix-snoc σ p d ∙ ap (λ (v : Bool). cond v (p ++ (d ∷ [])) (longestPrefix σ p)) y ∙ sym (whole-at σ inv atRight (p ++ (d ∷ [])) y)
+
+-- ---- nodes
+
+-- the word around a node reaches two further
+around-reach : (σ : ℕ → ℕ) (d : ℕ) (v : Node) → reachOf (spelt (around σ d v)) ≡ reachOf v + 2
+unfolding around
+around-reach σ d imaginary = refl
+around-reach σ d (spelt w) = omega (arith, length-append w (d ∷ []))
+
+-- a row of the store that is no root spells the word around its inner row
+node-in-step : (b : Word) (q : ℕ) → 2 ≤ q → nodeIn b q ≡ spelt (around (ruleOf b) (outerIn b q) (nodeFrom (ruleOf b) (innerIn b) (outerIn b) (capacityIn b + 1) (innerIn b q)))
+unfolding nodeIn
+node-in-step b q l =
+    let e : capacityIn b + 2 ≡ suc (capacityIn b + 1) = omega arith in
+    ap (λ (n : ℕ). nodeFrom (ruleOf b) (innerIn b) (outerIn b) n q) e ∙ node-from-step (ruleOf b) (innerIn b) (outerIn b) (capacityIn b + 1) q l
+
+-- ---- the start
+
+-- rows 0 and 1 spell the roots
+node-zero : (b : Word) → nodeIn b 0 ≡ imaginary
+unfolding nodeIn
+node-zero b = root-zero (ruleOf b) (innerIn b) (outerIn b) (capacityIn b + 2)
+
+node-one : (b : Word) → nodeIn b 1 ≡ spelt []
+unfolding nodeIn
+node-one b = root-one (ruleOf b) (innerIn b) (outerIn b) (capacityIn b + 2)
+
+-- the rows of the store with no edges
+abbrev bare : Word → Word → Table
+bare b marks = record { used = metIn marks; length = lengthIn b; link = linkIn b; inner = innerIn b; outer = outerIn b; edge = λ r c. 0 }
+
+module _ {b marks : Word} (z : Ready b) (n : Blank marks) where
+  -- both roots lead to the imaginary string
+  root-link : (r : ℕ) → r < 2 → linkIn b r ≡ 0
+  root-link zero l = z .roots .imaginary .link
+  root-link (suc zero) l = z .roots .empty .link
+  root-link (suc (suc r)) l = absurd (omega arith)
+
+  root-inner : (r : ℕ) → r < 2 → innerIn b r ≡ 0
+  root-inner zero l = z .roots .imaginary .inner
+  root-inner (suc zero) l = z .roots .empty .inner
+  root-inner (suc (suc r)) l = absurd (omega arith)
+
+  bare-roots : Roots (bare b marks) (nodeIn b)
+  bare-roots =
+      record {
+        used-zero = met-root marks 0 (omega arith);
+        used-one = met-root marks 1 (omega arith);
+        only = blank-met n;
+        node-zero = node-zero b;
+        node-one = node-one b;
+        length-zero = z .roots .imaginary .length-is;
+        length-one = z .roots .empty .length-is;
+        link = root-link;
+        inner = root-inner;
+        edge = λ r c h l. refl;
+      }
+
+  start-covers : Covers (ruleOf b) [] (withUsed (metIn marks) (tableIn b)) (nodeIn b)
+  start-covers =
+      let h = roots-cover (ruleOf b) bare-roots in
+      record {
+        row-zero = h .row-zero;
+        row-one = h .row-one;
+        each-row = h .each-row;
+        each-word = h .each-word;
+        one-row = h .one-row;
+        length-is = h .length-is;
+        link-is = h .link-is;
+        inner-is = h .inner-is;
+        outer-is = h .outer-is;
+        edge-there = λ r c u l m. absurd (around-not-empty (ruleOf b) c (nodeIn b r) (stands-of-empty (m .1)));
+      }
+
+  -- before the first letter the tour stands at the empty string
+  pub tour-start : Toured b marks [] (record { row = 1; left = 1; met = 0 })
+  unfolding longestAt
+  tour-start =
+      record {
+        long = n .long;
+        used = λ r u. used-root b r (blank-met n r u);
+        covers = start-covers;
+        row-met = met-root marks 1 (omega arith);
+        row-holds = node-one b ∙ ap spelt (sym (longest-empty (ruleOf b) atRight));
+        left-met = met-root marks 1 (omega arith);
+        left-holds = node-one b ∙ ap spelt (sym (longest-empty (ruleOf b) atLeft));
+        met-is = sym (count-empty (ruleOf b));
+      }
+
+-- ---- what the code goes by
+
+-- how a tour stands, by the answer that it gave
+pub led : (b marks p : Word) (r s : Visit) → Visited b marks p r → r ≡ s → Visited b marks p s
+led b marks p r s v e = subst (Visited b marks p) e v
+
+-- ---- a letter
+
+module _ {b marks : Word} {k : ℕ} {t : Tour} (s : Reading b marks k t) where
+  letters-more : k < length (lettersIn b)
+  letters-more = omega (arith, letters-length (s .ready .sized))
+
+  read-length : length (readIn b k) ≡ k
+  read-length = length-take-le k (lettersIn b) (omega (arith, letters-more))
+
+  -- no more rows are met than letters read
+  pub met-most : t .met ≤ k
+  met-most = omega (arith, s .toured .met-is, count-length (ruleOf b) (readIn b k), read-length)
+
+  -- from every row met the links lead down to row 0
+  pub met-chain : (r : ℕ) → metIn marks r ≡ true → Chain b r
+  met-chain r u = chain b (s .toured .covers) (λ q m. rows-fit (s .ready .sized) q (s .toured .used q m)) r u
+
+  module _ {d : ℕ} (e : d ≡ getD (lettersIn b) k 0) where
+    letter-next : isLetter d ≡ true
+    letter-next = rw e (letter-of (lettersIn b) k letters-more (s .ready .letters))
+
+    read-next : readIn b (k + 1) ≡ readIn b k ++ (d ∷ [])
+    read-next = rw (add-one k, e) (take-suc (lettersIn b) k 0 letters-more)
+
+    read-stands : Stands (readIn b k ++ (d ∷ [])) (lettersIn b)
+    read-stands = rw (← read-next) (prefix-stands (record { after = drop (k + 1) (lettersIn b); whole = take-append-drop (k + 1) (lettersIn b) }))
+
+    -- the walk finds a row to grow, or none
+    module _ {o : Walked} (m : Meets b (lettersIn b) k d (ruleOf b d) (t .row) o) where
+      found : Found (ruleOf b) (metIn marks) (nodeIn b) (readIn b k) d o
+      found = meets-longest b (s .toured .covers) (rule-inverse (readingIn b)) (lettersIn b) k d (omega (arith, letters-more)) (t .row) o (s .toured .row-met) (s .toured .row-holds) m
+
+      pub tour-grows : (u : ℕ) → o ≡ At u → Grows b marks k d u
+      tour-grows u f =
+          let g : Found (ruleOf b) (metIn marks) (nodeIn b) (readIn b k) d (At u) = subst (Found (ruleOf b) (metIn marks) (nodeIn b) (readIn b k) d) f found in
+          record { next = e; met = g .0; longest = g .1 }
+
+      pub tour-none : o ≡ Nothing → Toured b marks (readIn b (k + 1)) (record { row = 1; left = t .left; met = t .met })
+      tour-none f =
+          let g : longestSuffix (ruleOf b) (readIn b k ++ (d ∷ [])) ≡ [] = subst (Found (ruleOf b) (metIn marks) (nodeIn b) (readIn b k) d) f found in
+          rw read-next
+          (record {
+            long = s .toured .long;
+            used = s .toured .used;
+            covers = read-none (s .toured .covers) d g;
+            row-met = met-root marks 1 (omega arith);
+            row-holds = node-one b ∙ ap spelt (sym g);
+            left-met = s .toured .left-met;
+            left-holds = s .toured .left-holds ∙ ap spelt (sym (prefix-kept (ruleOf b) (readIn b k) d (rule-inverse (readingIn b)) (omega (arith, ap length g))));
+            met-is = s .toured .met-is ∙ sym (count-old (ruleOf b) (readIn b k) d (rw g (stands-empty (readIn b k))));
+          })
+
+    -- the tour comes to row q, which holds the longest palindrome that then ends the letters
+    module _ {marks′ : Word} (long : length marks′ ≡ 1026) (used : (r : ℕ) → metIn marks′ r ≡ true → usedIn b r ≡ true)
+        (cov : Covers (ruleOf b) (readIn b k ++ (d ∷ [])) (withUsed (metIn marks′) (tableIn b)) (nodeIn b)) where
+      arrived : (q left m : ℕ) → metIn marks′ q ≡ true → nodeIn b q ≡ spelt (longestSuffix (ruleOf b) (readIn b k ++ (d ∷ []))) → metIn marks′ (t .left) ≡ true
+          → left ≡ leftAfter b k q (t .left) → m ≡ count (ruleOf b) (readIn b k ++ (d ∷ [])) → Toured b marks′ (readIn b (k + 1)) (record { row = q; left = left; met = m })
+      arrived q left m u f l i c =
+          let v = begins (leb (cell b q 0) (k + 1)) refl in
+          rw read-next (record { long = long; used = used; covers = cov; row-met = u; row-holds = f; left-met = rw i (v .0); left-holds = rw i (v .1); met-is = c })
+        where
+          reach : cell b q 0 ≡ suc (length (longestSuffix (ruleOf b) (readIn b k ++ (d ∷ []))))
+          reach = stored-reach b cov q u ∙ ap reachOf f
+
+          begins : (v : Bool) → leb (cell b q 0) (k + 1) ≡ v
+              → (metIn marks′ (cond v (t .left) q) ≡ true) × (nodeIn b (cond v (t .left) q) ≡ spelt (longestPrefix (ruleOf b) (readIn b k ++ (d ∷ []))))
+          begins true g =
+              (l, s .toured .left-holds ∙ ap spelt (sym (prefix-kept (ruleOf b) (readIn b k) d (rule-inverse (readingIn b)) (omega (arith, reach, read-length, leb-true (cell b q 0) (k + 1) g)))))
+          begins false g =
+              (u, f ∙ ap spelt (sym (prefix-whole (ruleOf b) (readIn b k) d (rule-inverse (readingIn b)) (omega (arith, reach, read-length, leb-false (cell b q 0) (k + 1) g)))))
+
+  module _ {d u : ℕ} (w : Grows b marks k d u) where
+    -- from row u the links can be walked
+    pub grown-walkable : {f : Frame} → Frames b f → Walkable b f k u
+    grown-walkable h = record { sized = s .ready .sized; framed = h; more = s .more; chain = met-chain u (w .met) }
+
+    -- to a row met before
+    pub tour-old : {q left : ℕ} → PointsBack b u d q → getD marks q 0 ≡ 1 → left ≡ leftAfter b k q (t .left)
+        → Toured b marks (readIn b (k + 1)) (record { row = q; left = left; met = t .met })
+    tour-old {q} {left} r f l =
+        let i = met-marked marks q f in
+        let o = read-old (s .toured .covers) u d (w .met) (w .longest) q i (r .low) (r .inner) (r .outer) in
+        arrived (w .next) (s .toured .long) (s .toured .used) (o .0) q left (t .met) i (o .1) (s .toured .left-met) l (s .toured .met-is ∙ sym (count-old (ruleOf b) (readIn b k) d (o .2)))
+
+    -- the word of row u ends the letters read, if it has one
+    word-ends : (v : Word) → nodeIn b u ≡ spelt v → Suffix v (readIn b k)
+    unfolding around
+    word-ends v f =
+        let x : Suffix (ruleOf b d ∷ v ++ (d ∷ [])) (readIn b k ++ (d ∷ [])) =
+        subst (λ (y : Word). Suffix y (readIn b k ++ (d ∷ []))) (w .longest ∙ ap (around (ruleOf b) d) f) (longest-suffix (ruleOf b) (readIn b k ++ (d ∷ [])) .suffix) in
+        suffix-trans (suffix-append (ruleOf b d ∷ []) v) (suffix-snoc-back d d x .0)
+
+    -- the link of what d makes of it stood before
+    link-stands-read : (v : Word) → nodeIn b u ≡ spelt v → NodeOf (ruleOf b) (readIn b k) (spelt (longestSuffix (ruleOf b) (v ++ (d ∷ []))))
+    unfolding around
+    link-stands-read v f =
+        let o = longest-suffix (ruleOf b) (readIn b k ++ (d ∷ [])) in
+        let e = w .longest ∙ ap (around (ruleOf b) d) f in (
+          longest-suffix (ruleOf b) (v ++ (d ∷ [])) .symmetric,
+          link-stood (ruleOf b) (readIn b k) d (subst (Symmetric (ruleOf b)) e (o .symmetric))
+              (subst (λ (y : Word). Stands y (readIn b k ++ (d ∷ []))) e (suffix-stands (o .suffix))),
+        )
+
+    -- what the second walk finds is the row of the link
+    link-holds : (x : ℕ) → LinkFound b k d u x → (metIn marks x ≡ true) × (nodeIn b x ≡ linkOf (ruleOf b) (spelt (around (ruleOf b) d (nodeIn b u))))
+    link-holds x (alone i j) =
+        let f : nodeIn b u ≡ imaginary = ap (nodeIn b) i ∙ node-zero b in
+        rw (j, f) (met-root marks 1 (omega arith), node-one b ∙ sym (link-of-letter (ruleOf b) d))
+    link-holds x (within i st) = by (nodeIn b u) refl
+      where
+        framed : (v : Word) → nodeIn b u ≡ spelt v → spelt (longestSuffix (ruleOf b) (v ++ (d ∷ []))) ≡ linkOf (ruleOf b) (spelt (around (ruleOf b) d (nodeIn b u)))
+        framed v f = sym (ap (λ (y : Node). linkOf (ruleOf b) (spelt (around (ruleOf b) d y))) f ∙ link-of-framed (ruleOf b) d v)
+
+        walked : (v : Word) → nodeIn b u ≡ spelt v → (o : Walked) → Meets b (lettersIn b) k d (ruleOf b d) (linkIn b u) o → Found (ruleOf b) (metIn marks) (nodeIn b) v d o
+        walked v f o m = meets-link b (s .toured .covers) (rule-inverse (readingIn b)) (lettersIn b) k d (omega (arith, letters-more)) u o v (w .met) f (word-ends v f) m
+
+        stepped : (v : Word) → nodeIn b u ≡ spelt v → Stepped b (lettersIn b) k d (ruleOf b d) (linkIn b u) x
+            → (metIn marks x ≡ true) × (nodeIn b x ≡ linkOf (ruleOf b) (spelt (around (ruleOf b) d (nodeIn b u))))
+        stepped v f (grown y m j) =
+            let g : (metIn marks y ≡ true) × (longestSuffix (ruleOf b) (v ++ (d ∷ [])) ≡ around (ruleOf b) d (nodeIn b y)) = walked v f (At y) m in
+            let o = s .toured .covers .edge-there y d (g .0) (letter-next (w .next)) (subst (λ (x : Word). NodeOf (ruleOf b) (readIn b k) (spelt x)) (g .1) (link-stands-read v f)) in
+            rw j (o .0, o .1 ∙ ap spelt (sym (g .1)) ∙ framed v f)
+        stepped v f (ended m j) =
+            let g : longestSuffix (ruleOf b) (v ++ (d ∷ [])) ≡ [] = walked v f Nothing m in
+            rw j (met-root marks 1 (omega arith), node-one b ∙ ap spelt (sym g) ∙ framed v f)
+
+        by : (y : Node) → nodeIn b u ≡ y → (metIn marks x ≡ true) × (nodeIn b x ≡ linkOf (ruleOf b) (spelt (around (ruleOf b) d (nodeIn b u))))
+        by imaginary f = absurd (i (imaginary-row (s .toured .covers) u (w .met) f))
+        by (spelt v) f = stepped v f st
+
+    module _ {q : ℕ} (r : PointsBack b u d q) where
+      -- a row that names u and d spells the word around u by d
+      new-word : nodeIn b q ≡ spelt (around (ruleOf b) d (nodeIn b u))
+      new-word =
+          let j = node-from (s .toured .covers) (capacityIn b + 1) u (w .met) (omega (arith, read-length, s .ready .sized .letters-fit)) in
+          cc (node-in-step b q (r .low), r .inner, r .outer, j)
+
+      -- so if its length and its link are right, all of it is
+      new-fits : cell b q 0 ≡ cell b u 0 + 2 → LinkFound b k d u (linkIn b q) → Fits (ruleOf b) (withUsed (metIn marks) (tableIn b)) (nodeIn b) u d q
+      unfolding lengthIn
+      new-fits c x =
+          let l = link-holds (linkIn b q) x in
+          let o = new-word in
+          let n : cell b q 0 ≡ reachOf (nodeIn b q) = omega (arith, stored-reach b (s .toured .covers) u (w .met), around-reach (ruleOf b) d (nodeIn b u), ap reachOf o) in
+          record {
+            word = o;
+            length-right = ap (λ (m : ℕ). predℤ (pos m)) n ∙ sym (reach-length (nodeIn b q));
+            link-right = (l .0, l .1 ∙ ap (linkOf (ruleOf b)) (sym o));
+            inner-right = r .inner;
+            outer-right = r .outer;
+          }
+
+      mark-inside : q < length marks
+      mark-inside = omega (arith, s .toured .long, r .high, s .ready .sized .at-most)
+
+      used-more : rankIn b q < countIn b → (i : ℕ) → metIn (set marks q 1) i ≡ true → usedIn b i ≡ true
+      used-more y i m =
+          ⊎-elim
+          (λ e. subst (λ (j : ℕ). usedIn b j ≡ true) (sym (eqb-true i q e)) (used-is b q (r .low) (r .high) ∙ lt-ltb (rankIn b q) (countIn b) y))
+          (s .toured .used i)
+          (either-true (eqb i q) (metIn marks i) (sym (met-set marks q mark-inside i) ∙ m))
+
+      -- to a row that is met for the first time
+      pub tour-new : {left : ℕ} → q ≡ edgeIn b u d → (getD marks q 0 ≡ 1 → ⊥) → NewRow b k d u q true → left ≡ leftAfter b k q (t .left)
+          → Toured b (set marks q 1) (readIn b (k + 1)) (record { row = q; left = left; met = t .met + 1 })
+      tour-new {left} f n (right c y x) l =
+          let old = met-unmarked marks q (r .low) n in
+          let also = met-set marks q mark-inside in
+          arrived (w .next) (length-set marks q 1 ∙ s .toured .long) (used-more y)
+          (read-new (s .toured .covers) u d (w .met) (w .longest) (letter-next (w .next)) q (sym f) old (new-fits c x) (metIn (set marks q 1)) also)
+          q left (t .met + 1)
+          (also q ∙ left-is (eqb q q) (metIn marks q) (eq-eqb q q refl))
+          (new-word ∙ ap spelt (sym (w .longest)))
+          (also (t .left) ∙ right-is (eqb (t .left) q) (metIn marks (t .left)) (s .toured .left-met))
+          l
+          (omega (arith, s .toured .met-is, count-new (ruleOf b) (readIn b k) d (read-fresh (s .toured .covers) u d (w .met) (w .longest) (letter-next (w .next)) (subst (λ (j : ℕ). metIn marks j ≡ false) f old))))
+
+    -- ---- in a good store
+
+    module _ (g : Good b) {q : ℕ} (f : q ≡ edgeIn b u d) where
+      -- the edge leads to the row of the longest palindrome
+      edge-good : (usedIn b q ≡ true) × (nodeIn b q ≡ spelt (around (ruleOf b) d (nodeIn b u)))
+      edge-good =
+          let o = step-there (covers g) (readIn b k) d (read-stands (w .next)) (letter-next (w .next)) u (s .toured .used u (w .met)) (w .longest) in
+          rw f (o .0, o .1 ∙ ap spelt (w .longest))
+
+      -- which names u and d
+      pub good-back : PointsBack b u d q
+      good-back = good-names g u d q (s .toured .used u (w .met)) (edge-good .0) (edge-good .1)
+
+      -- and is longer by two, is in use, and has the link that the second walk finds
+      pub good-new : NewRow b k d u q false → ⊥
+      good-new (not-longer n) =
+          n (omega (arith, length-row g q (edge-good .0), length-row g u (s .toured .used u (w .met)), ap reachOf (edge-good .1), around-reach (ruleOf b) d (nodeIn b u)))
+      good-new (not-used l) = omega (arith, used-rank b q (good-back .low) (edge-good .0))
+      good-new (not-linked x o n) =
+          let i = link-holds x o in
+          let j = covers g .link-is q (edge-good .0) in
+          n (g .table .one-row (linkIn b q) x (j .0) (s .toured .used x (i .0)) (j .1 ∙ ap (linkOf (ruleOf b)) (edge-good .1) ∙ sym (i .1)))

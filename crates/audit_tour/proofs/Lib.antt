@@ -1,0 +1,3 @@
+-- laws of the tour: the marks, and what a letter more shows
+pub mod Marks
+pub mod Letter

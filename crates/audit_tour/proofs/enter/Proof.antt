@@ -1,0 +1,118 @@
+-- `audit_tour::enter` goes along an edge: each of its tests passes in a good store, and where all pass the tour goes on (`Letter`). Assumes nothing.
+use Prim.Native.Nat.{ℕ, _<_}
+use native.Mathlib.Omega.{arith}
+use borrow.Author.Needs.{needs}
+use borrow.Author.Tests.{not-true, not-false}
+use mathlib.Core.Path.{subst}
+use lib.ListN.{length}
+use Rattle.palindromes.specs.Word.{Word}
+use Rattle.walk.proofs.Stores.{rows-fit}
+use Rattle.transitions.proofs.Rows.{row-fits}
+use Rattle.audit_fixed.proofs.Decided.{holds, fails}
+use Rattle.audit_edge.specs.Edge.{PointsBack, NewRow}
+use Rattle.audit_tour.specs.Tour.{Reading}
+use Rattle.audit_tour.specs.declared.Tour.{Tour}
+use Rattle.audit_tour.proofs.Letter.{met-most, grown-walkable, tour-old, tour-new, good-back, good-new}
+use Rattle.audit_tour.proofs.enter.Statement.{statement}
+use Rattle.audit_tour.proofs.enter.Tie as tie
+
+module _ {b marks : Word} {k : ℕ} {t : Tour} (s : Reading b marks k t) where
+  -- numbers of letters and of rows are small
+  k-small : k < 1024
+  k-small = omega (arith, s .more, s .ready .sized .letters-fit, s .ready .sized .at-most)
+
+  met-small : t .met < 1024
+  met-small = omega (arith, met-most s, k-small)
+
+  -- every row of the table has a mark
+  mark-of : (q : ℕ) {u d : ℕ} → PointsBack b u d q → q < length marks
+  mark-of q r = omega (arith, s .toured .long, r .high, s .ready .sized .at-most)
+
+-- the entry, from behind the first test, and what is known there: the row names the edge
+abbrev from-back : tie.Else1 → tie.Start
+from-back c = c .before .before .before .before .before
+
+named : (c : tie.Else1) → PointsBack (from-back c .args .b .now) (from-back c .args .u) (from-back c .args .d) (c .before .before .edge-of .result)
+named c = holds _ (c .before .points-back .result) (c .before .points-back .ensures) (c .if1 .left)
+
+-- the first test, from behind the second and from behind the third
+abbrev back : tie.Else2 → tie.Else1
+back c = c .before .before .before
+
+abbrev back-of-new : tie.Else3 → tie.Else1
+back-of-new c = back (c .before .before)
+
+edge-of-requires : tie.Need-edge-of-requires
+edge-of-requires c κs =
+    let p = c .before .before .pre in
+    rows-fit (p .1 .0 .ready .sized) (c .before .before .args .u) (p .1 .0 .toured .used (c .before .before .args .u) (p .1 .1 .met))
+
+returns : tie.Need-returns
+returns c g =
+    let p = c .before .before .before .before .before .pre in
+    fails _ (c .before .points-back .result) (c .before .points-back .ensures) (c .if1 .taken) (good-back (p .1 .0) (p .1 .1) g (c .before .before .edge-of .ensures .0))
+
+left-after-requires : tie.Need-left-after-requires
+left-after-requires c κs =
+    let s = from-back c .pre .1 .0 in
+    (row-fits (s .ready .sized) (c .before .before .edge-of .result) (named c .high), omega (arith, k-small s))
+
+slice-read-if2 : tie.Need-slice-read-if2
+slice-read-if2 c = mark-of (from-back (c .before .before) .pre .1 .0) (c .before .before .before .before .edge-of .result) (named (c .before .before))
+
+returns-2 : tie.Need-returns-2
+returns-2 c =
+    let first = c .before .before .before in
+    let p = from-back first .pre in
+    tour-old (p .1 .0) (p .1 .1) (named first) (c .if2 .taken) (c .before .before .left-after .ensures)
+
+new-row-right-requires : tie.Need-new-row-right-requires
+new-row-right-requires c κs =
+    let p = from-back (back c) .pre in
+    (grown-walkable (p .1 .0) (p .1 .1) (p .0), named (back c) .high)
+
+returns-3 : tie.Need-returns-3
+returns-3 c g =
+    let first = c .before .before .before .before .before in
+    let s = from-back first in
+    let a = s .args in
+    let q = first .before .before .edge-of in
+    let new = c .before .new-row-right in
+    good-new (s .pre .1 .0) (s .pre .1 .1) g (q .ensures .0) (subst (NewRow (a .b .now) (a .k) (a .d) (a .u) (q .result)) (not-true (new .result) (c .if3 .taken)) (new .ensures))
+
+slice-write-marks : tie.Need-slice-write-marks
+slice-write-marks c =
+    let first = back-of-new c in
+    mark-of (from-back first .pre .1 .0) (first .before .before .edge-of .result) (named first)
+
+add-met : tie.Need-add-t16
+add-met c = omega (arith, met-small (from-back (back-of-new (c .before)) .pre .1 .0))
+
+returns-4 : tie.Need-returns-4
+returns-4 c =
+    let third = c .before in
+    let second = third .before .before in
+    let first = back second in
+    let s = from-back first in
+    let a = s .args in
+    let q = first .before .before .edge-of in
+    let new = third .before .new-row-right in
+    let r = subst (NewRow (a .b .now) (a .k) (a .d) (a .u) (q .result)) (not-false (new .result) (third .if3 .left)) (new .ensures) in
+    tour-new (s .pre .1 .0) (s .pre .1 .1) (named first) (q .ensures .0) (second .if2 .left) r (second .before .before .left-after .ensures)
+
+pub enter-spec : {M : Type 1} → statement M
+enter-spec =
+    tie.close
+    (tie.spec
+    edge-of-requires
+    (λ c κs. c .before .before .before .pre .1 .0 .ready .sized)
+    returns
+    left-after-requires
+    slice-read-if2
+    returns-2
+    new-row-right-requires
+    returns-3
+    slice-write-marks
+    add-met
+    (λ c. search needs)
+    returns-4)

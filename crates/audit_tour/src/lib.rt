@@ -1,0 +1,119 @@
+// The tour of the letters from left to right: from the row of the longest palindrome that ends the
+// letters so far, each letter leads to the row of the next one. A row is tested when it is first
+// met, and marked.
+ghost use mathlib.Core.Path.{_≡_};
+ghost use Prim.Native.Nat.{_+_, _*_, _<_, _≤_};
+ghost use lib.ListN.{length};
+ghost use Rattle.store.specs.Layout.{lettersIn};
+ghost use Rattle.walk.specs.Frame.{Frames};
+ghost use Rattle.audit_tour.specs.Tour.{Ready, Blank, readIn, leftAfter, Reading, Grows, Visited};
+use audit_edge::new_row_right;
+use audit_edge::points_back;
+use store::lengths;
+use store::lengths::Place;
+use store::letters;
+use store::letters::Side;
+use store::rows;
+use store::rows::Row;
+use walk::Walked;
+use walk::frame::Frame;
+use walk::frame::frame_of;
+
+// Where a tour stands: the row of the longest palindrome that ends the letters so far, the row of
+// the longest that begins them, and how many rows were met.
+pub struct Tour {
+    pub row: usize,
+    pub left: usize,
+    pub met: usize,
+}
+
+// What a letter leads to: the tour goes on, or the store is not good.
+pub enum Visit {
+    Next(Tour),
+    Broken,
+}
+
+// The row of the longest palindrome that begins k + 1 letters, if row q's is the longest that ends
+// them: with no letter before it, it is all of them.
+pub fn left_after(b: &[u8], k: usize, q: usize, left: usize) -> usize
+    requires { ⌜ (24 * q + 24 ≤ length (now b)) × (k < 65535) ⌝ }
+    ensures { λ r. ⌜ r ≡ leftAfter (now (b .entry)) k q left ⌝ }
+{
+    let place = lengths::before(k + 1, rows::length_of(b, q));
+    match place {
+        Place::At(_) => left,
+        Place::Outside => q,
+    }
+}
+
+// The letter d, k letters read, leads along the edge of row u.
+pub fn enter(b: &[u8], f: Frame, marks: &mut [u8], k: usize, tour: Tour, u: usize, d: u8) -> Visit
+    requires { ⌜ Frames (now b) f ⌝ }
+    requires { ⌜ Reading (now b) (now marks) k tour ⌝ }
+    requires { ⌜ Grows (now b) (now marks) k d u ⌝ }
+    ensures { λ r. ⌜ Visited (now (b .entry)) (now (marks .exit)) (readIn (now (b .entry)) (k + 1)) r ⌝ }
+{
+    let q = rows::edge_of(b, u, d);
+    if !points_back(b, u, d, q) {
+        return Visit::Broken;
+    }
+    let left = left_after(b, k, q, tour.left);
+    if marks[q] == 1 {
+        return Visit::Next(Tour {
+            row: q,
+            left,
+            met: tour.met,
+        });
+    }
+    if !new_row_right(b, f, k, u, d, q) {
+        return Visit::Broken;
+    }
+    marks[q] = 1;
+    Visit::Next(Tour {
+        row: q,
+        left,
+        met: tour.met + 1,
+    })
+}
+
+// The letter after the first k.
+pub fn advance(b: &[u8], f: Frame, marks: &mut [u8], k: usize, tour: Tour) -> Visit
+    requires { ⌜ Frames (now b) f ⌝ }
+    requires { ⌜ Reading (now b) (now marks) k tour ⌝ }
+    ensures { λ r. ⌜ Visited (now (b .entry)) (now (marks .exit)) (readIn (now (b .entry)) (k + 1)) r ⌝ }
+{
+    let d = letters::seen(b, f.reading, f.base, f.n, Side::Right, k);
+    let found = walk::walk(b, f, Side::Right, k, tour.row, d);
+    match found {
+        Walked::At(u) => enter(b, f, marks, k, tour, u, d),
+        Walked::Nothing => Visit::Next(Tour {
+            row: Row::EMPTY,
+            left: tour.left,
+            met: tour.met,
+        }),
+    }
+}
+
+// All letters, with no row marked at first.
+pub fn replay(b: &[u8], marks: &mut [u8]) -> Visit
+    requires { ⌜ Ready (now b) ⌝ }
+    requires { ⌜ Blank (now marks) ⌝ }
+    ensures { λ r. ⌜ Visited (now (b .entry)) (now (marks .exit)) (lettersIn (now (b .entry))) r ⌝ }
+{
+    let f = frame_of(b);
+    let n = f.n;
+    let mut tour = Tour {
+        row: Row::EMPTY,
+        left: Row::EMPTY,
+        met: 0,
+    };
+    let mut k = 0;
+    while k < n {
+        let Visit::Next(next) = advance(b, f, marks, k, tour) else {
+            return Visit::Broken;
+        };
+        tour = next;
+        k += 1;
+    }
+    Visit::Next(tour)
+}
