@@ -5,6 +5,7 @@ use bed::put_line;
 use store::bytes;
 use store::header;
 use store::rows::Row;
+use walk::frame::frame_of;
 ghost use mathlib.Core.Path.{_≡_};
 ghost use mathlib.Core.Bool.{true};
 ghost use Prim.Native.Nat.{_*_, _≤_, _<_};
@@ -23,12 +24,12 @@ fn add_lines(b: &[u8], name: &[u8], marks: &mut [u8]) -> usize
     requires { ⌜ ReadTo (now b) 0 1 (now marks) ⌝ }
     ensures { λ r. ⌜ r ≡ length (listing (ruleOf (now (b .entry))) (now (name .entry)) (lettersIn (now (b .entry)))) ⌝ }
 {
-    let n = header::size(b);
+    let f = frame_of(b);
     let mut row = Row::EMPTY;
     let mut total = 0;
     let mut k = 0;
-    while k < n {
-        let met = meet(b, k, row, marks);
+    while k < f.n {
+        let met = meet(b, f, k, row, marks);
         row = met.row;
         k += 1;
         if met.first {
@@ -59,12 +60,12 @@ fn put_lines(b: &[u8], name: &[u8], marks: &mut [u8], out: &mut [u8]) -> usize
     ensures behind { λ r. ⌜ r ≡ length (listing (ruleOf (now (b .entry))) (now (name .entry)) (lettersIn (now (b .entry)))) ⌝ }
     ensures kept { λ _. ⌜ ((w : Word) → sizeIn (now (b .entry)) ≤ length w → sets (now (marks .exit)) 0 w ≡ sets (now (marks .entry)) 0 w) ⌝ }
 {
-    let n = header::size(b);
+    let f = frame_of(b);
     let mut row = Row::EMPTY;
     let mut at = 0;
     let mut k = 0;
-    while k < n {
-        let met = meet(b, k, row, marks);
+    while k < f.n {
+        let met = meet(b, f, k, row, marks);
         row = met.row;
         k += 1;
         if met.first {

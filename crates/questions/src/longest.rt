@@ -1,8 +1,8 @@
 // The longest palindrome of the record: its length and its leftmost place.
 use super::spell::spelling_length;
-use store::header;
 use store::letters::Side;
 use store::rows::Row;
+use walk::frame::frame_of;
 use walk::replay;
 ghost use mathlib.Core.Path.{_≡_};
 ghost use Rattle.palindromes.specs.Record.{longestLength, longestPlace};
@@ -22,13 +22,13 @@ pub fn longest(b: &[u8]) -> LongestAnswer
     ensures length { λ r. ⌜ r .length ≡ longestLength (ruleOf (now (b .entry))) (lettersIn (now (b .entry))) ⌝ }
     ensures place { λ r. ⌜ r .place ≡ longestPlace (ruleOf (now (b .entry))) (lettersIn (now (b .entry))) ⌝ }
 {
-    let n = header::size(b);
+    let f = frame_of(b);
     let mut row = Row::EMPTY;
     let mut length = 0;
     let mut place = 0;
     let mut k = 0;
-    while k < n {
-        row = replay::next(b, Side::Right, k, row);
+    while k < f.n {
+        row = replay::next(b, f, Side::Right, k, row);
         let here = spelling_length(b, row);
         if length < here {
             length = here;

@@ -11,9 +11,9 @@ use Rattle.store.specs.Good.{ruleIn, ruleOf, Sized}
 use Rattle.store.specs.Side.{endOf}
 use Rattle.store.specs.declared.letters.Side.{Side}
 use Rattle.store.proofs.Sizes.{used-below}
-use Rattle.walk.specs.Walk.{seenIn, Within}
-use Rattle.walk.specs.Replay.{Frames, lettersTowards}
-use Rattle.walk.specs.declared.replay.Frame.{Frame}
+use Rattle.walk.specs.Frame.{Frames, seenIn, partnerIn, Within}
+use Rattle.walk.specs.Replay.{lettersTowards}
+use Rattle.walk.specs.declared.frame.Frame.{Frame}
 use Rattle.walk.proofs.Found.{RowsFit}
 
 -- ---- sizes
@@ -32,25 +32,23 @@ module _ {b : Word} (z : Sized b) where
   pub rows-fit : RowsFit b (usedIn b)
   rows-fit r u = omega (arith, store-long, used-below b r u)
 
-  -- and the letters that stand, of which any number may have been read
-  pub letters-within : (k : ℕ) → k ≤ sizeIn b → Within b (lettersAt (capacityIn b)) (sizeIn b) k
-  letters-within k h = record { letters = omega (arith, store-long, z .letters-fit); read = h; small = omega (arith, z .letters-fit, z .at-most) }
-
 -- ---- the frame
 
 module _ {b : Word} {f : Frame} (h : Frames b f) where
   -- the letters that code reads with the frame of a store are the store's
-  pub framed-letters : (side : Side) → seenIn b (f .reading) (f .base) (f .n) side ≡ lettersTowards b (endOf side)
+  pub framed-letters : (side : Side) → seenIn b f side ≡ lettersTowards b (endOf side)
   unfolding lettersIn
-  framed-letters side =
-      ap (λ (x : ℕ). seenIn b x (f .base) (f .n) side) (h .reading-is)
-      ∙ ap (λ (x : ℕ). seenIn b (readingIn b) x (f .n) side) (h .base-is)
-      ∙ ap (λ (x : ℕ). seenIn b (readingIn b) (lettersAt (capacityIn b)) x side) (h .size-is)
+  framed-letters side = rw (h .reading-is, h .base-is, h .size-is)
 
   -- and so is the partner rule
-  pub framed-rule : (d : ℕ) → ruleIn (f .reading) d ≡ ruleOf b d
+  pub framed-rule : (d : ℕ) → partnerIn f d ≡ ruleOf b d
   framed-rule d = ap (λ (x : ℕ). ruleIn x d) (h .reading-is)
 
-  -- and they lie within it
-  pub framed-within : Sized b → (k : ℕ) → k ≤ sizeIn b → Within b (f .base) (f .n) k
-  framed-within z k l = rw (h .base-is, h .size-is) (letters-within z k l)
+  -- and they lie within it; any number of them may have been read
+  pub framed-within : Sized b → (k : ℕ) → k ≤ sizeIn b → Within b f k
+  framed-within z k l =
+      record {
+        letters = omega (arith, h .base-is, h .size-is, store-long z, z .letters-fit);
+        read = omega (arith, h .size-is);
+        small = omega (arith, h .size-is, z .letters-fit, z .at-most);
+      }

@@ -8,10 +8,9 @@ use Rattle.palindromes.specs.Place.{stands}
 use Rattle.palindromes.specs.Record.{longestSuffix}
 use Rattle.palindromes.specs.End.{End, atLeft, atRight}
 use Rattle.palindromes.specs.Node.{spelt}
-use Rattle.store.specs.Layout.{capacityIn, sizeIn, readingIn, usedIn, lettersAt, lettersIn}
+use Rattle.store.specs.Layout.{usedIn, lettersIn}
 use Rattle.store.specs.Good.{ruleOf, nodeIn}
 use Rattle.store.specs.Writes.{towards}
-use Rattle.walk.specs.declared.replay.Frame.{Frame}
 
 -- the letters of the store, read towards an end
 abbrev pub lettersTowards : Word → End → Word
@@ -21,13 +20,6 @@ lettersTowards b e = towards (ruleOf b) e (lettersIn b)
 abbrev pub letterTowards : (ℕ → ℕ) → End → ℕ → ℕ
 letterTowards σ atRight c = c
 letterTowards σ atLeft c = σ c
-
--- the frame is that of the store
-pub record Frames (b : Word) (f : Frame) : Type 0 where
-  pub reading-is : f .reading ≡ readingIn b
-  pub base-is : f .base ≡ lettersAt (capacityIn b)
-  pub size-is : f .n ≡ sizeIn b
-  pub capacity-is : f .capacity ≡ capacityIn b
 
 -- row r of the store is used, and holds the longest palindrome that ends the first k letters of t
 pub record Holds (b t : Word) (k r : ℕ) : Type 0 where

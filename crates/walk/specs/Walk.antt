@@ -5,27 +5,13 @@ use mathlib.Core.Path.{_≡_}
 use mathlib.Core.Bool.{Bool, true, false, _&&_}
 use mathlib.Core.List.{[], _∷_, _++_}
 use lib.Dec.{leb, eqb}
-use lib.ListN.{length, getD, take, drop}
+use lib.ListN.{length, getD}
 use Rattle.palindromes.specs.Word.{Word}
 use Rattle.palindromes.specs.Record.{longestSuffix}
 use Rattle.palindromes.specs.Node.{Node, around}
 use Rattle.store.specs.Layout.{cell, linkIn, edgeIn}
-use Rattle.store.specs.Good.{ruleIn}
-use Rattle.store.specs.Side.{endOf}
-use Rattle.store.specs.Writes.{towards}
-use Rattle.store.specs.declared.letters.Side.{Side}
 use Rattle.walk.specs.declared.Walked.{Walked}
 use Rattle.walk.specs.declared.Walked.the-variants.{At, Nothing}
-
--- the n letters at base, read towards a side
-abbrev pub seenIn : Word → ℕ → ℕ → ℕ → Side → Word
-seenIn b reading base n side = towards (ruleIn reading) (endOf side) (take n (drop base b))
-
--- the n letters at base lie within the store, and k of them have been read
-pub record Within (b : Word) (base n k : ℕ) : Type 0 where
-  pub letters : base + n ≤ length b
-  pub read : k ≤ n
-  pub small : n < 65536
 
 -- the letter just before the palindrome of row r, which ends the first k letters, is `want`
 abbrev pub facesAt : Word → Word → ℕ → ℕ → ℕ → Bool

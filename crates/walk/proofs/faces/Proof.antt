@@ -13,7 +13,8 @@ use Rattle.store.specs.Layout.{cell, lengthIn}
 use Rattle.store.specs.Lengths.{placeBefore}
 use Rattle.store.proofs.Signed.{kept}
 use Rattle.store.specs.declared.lengths.Place.the-variants.{At, Outside}
-use Rattle.walk.specs.Walk.{seenIn, facesAt}
+use Rattle.walk.specs.Frame.{seenIn}
+use Rattle.walk.specs.Walk.{facesAt}
 use Rattle.walk.proofs.faces.Statement.{statement}
 use Rattle.walk.proofs.faces.Tie as tie
 
@@ -54,13 +55,13 @@ seen-requires c κs =
 returns : tie.Need-returns
 returns c =
     let a = c .before .before .before .before .before .before .before .args in
-    there (a .b .now) (seenIn (a .b .now) (a .reading) (a .base) (a .n) (a .side)) (a .k) (a .want) (a .row) (c .before .before .place .given .0 .0) (c .seen .result)
+    there (a .b .now) (seenIn (a .b .now) (a .f) (a .side)) (a .k) (a .want) (a .row) (c .before .before .place .given .0 .0) (c .seen .result)
     (sym (place-is (c .before .before .before .before)) ∙ c .before .before .place .given .1) (c .seen .ensures)
 
 returns-2 : tie.Need-returns-2
 returns-2 c =
     let a = c .before .before .before .before .before .args in
-    nowhere (a .b .now) (seenIn (a .b .now) (a .reading) (a .base) (a .n) (a .side)) (a .k) (a .want) (a .row) (sym (place-is (c .before .before)) ∙ c .enum-told .given .1)
+    nowhere (a .b .now) (seenIn (a .b .now) (a .f) (a .side)) (a .k) (a .want) (a .row) (sym (place-is (c .before .before)) ∙ c .enum-told .given .1)
 
 pub faces-spec : {M : Type 1} → statement M
 faces-spec =

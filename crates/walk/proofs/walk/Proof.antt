@@ -7,10 +7,10 @@ use mathlib.Core.Path.{_≡_, refl, sym, _∙_, subst}
 use mathlib.Core.Bool.{Bool, true, false}
 use Rattle.palindromes.specs.Word.{Word}
 use Rattle.store.specs.Layout.{cell, linkIn}
-use Rattle.store.specs.Good.{ruleIn}
 use Rattle.walk.specs.declared.Walked.{Walked}
 use Rattle.walk.specs.declared.Walked.the-variants.{At, Nothing}
-use Rattle.walk.specs.Walk.{seenIn, facesAt, Chain, Meets, letter, nothing, here, onward}
+use Rattle.walk.specs.Frame.{seenIn, partnerIn}
+use Rattle.walk.specs.Walk.{facesAt, Chain, Meets, letter, nothing, here, onward}
 use Rattle.walk.proofs.Chains.{chain-fits, chain-next}
 use Rattle.walk.proofs.walk.Statement.{statement}
 use Rattle.walk.proofs.walk.Tie as tie
@@ -21,10 +21,10 @@ record Turn (b t : Word) (k d want start row : ℕ) : Type 0 where
   back : (o : Walked) → Meets b t k d want row o → Meets b t k d want start o
 
 abbrev Inv-loop : tie.InvT-loop
-Inv-loop b reading base n side k start d want row₀ row = Turn b (seenIn b reading base n side) k d (ruleIn reading d) start row
+Inv-loop b f side k start d want row₀ row = Turn b (seenIn b f side) k d (partnerIn f d) start row
 
 abbrev μ-loop : tie.MeasureT-loop
-μ-loop b reading base n side k start d want row₀ row = cell b row 0
+μ-loop b f side k start d want row₀ row = cell b row 0
 
 module _ {b t : Word} {k d want start row : ℕ} (h : Turn b t k d want start row) (n : row ≡ 0 → ⊥) (x : Bool) (w : ℕ) (e : w ≡ want) (f : x ≡ facesAt b t k w row) where
   -- the walk ends at a row that faces the wanted letter

@@ -21,7 +21,7 @@ begins : (c : tie.After-spelling-length)
 begins c = ap (λ (n : ℕ). c .before .before .before .before .args .k + 1 - n) (here c)
 
 next-requires : tie.Need-next-requires
-next-requires c κs = let s = c .before .before in (s .pre .0, (s .pre .1 .0, to-right (s .pre .1 .1 .ends)))
+next-requires c κs = let s = c .before .before in (s .pre .0, (s .pre .1 .0, (s .pre .1 .1 .0, to-right (s .pre .1 .1 .1 .ends))))
 
 sub-start : tie.Need-sub-start
 sub-start c = let a = c .before .before .before .before .args in omega (arith, here c, ending-most (a .b .now) (a .k + 1))
@@ -32,8 +32,8 @@ returns c =
     let s = t .before .before .before .before in
     let a = s .args in
     let h = from-right (t .before .next .ensures) in
-    reads-old (s .pre .0) (a .k) (a .row) (t .before .next .result) (a .marks .now) (s .pre .1 .0) (s .pre .1 .1) h (a .k + 1 - t .spelling-length .result) (begins t)
-    (stood-root (s .pre .0) (a .k) (a .row) (t .before .next .result) (a .marks .now) (s .pre .1 .0) (s .pre .1 .1) h (c .if1 .taken))
+    reads-old (s .pre .0) (a .k) (a .row) (t .before .next .result) (a .marks .now) (s .pre .1 .1 .0) (s .pre .1 .1 .1) h (a .k + 1 - t .spelling-length .result) (begins t)
+    (stood-root (s .pre .0) (a .k) (a .row) (t .before .next .result) (a .marks .now) (s .pre .1 .1 .0) (s .pre .1 .1 .1) h (c .if1 .taken))
 
 rank-of-requires : tie.Need-rank-of-requires
 rank-of-requires c κs = let n = c .before .before .next in used-fits (c .before .before .before .before .before .pre .0) (n .result) (n .ensures .used)
@@ -43,7 +43,7 @@ marked : (c : tie.After-rank-of) → c .rank-of .result < length (c .before .bef
 marked c =
     let s = c .before .before .before .before .before .before in
     let n = c .before .before .before .next in
-    omega (arith, c .rank-of .ensures .0, rank-below (s .pre .0) (n .result) (n .ensures .used) (c .before .if1 .left), s .pre .1 .1 .room)
+    omega (arith, c .rank-of .ensures .0, rank-below (s .pre .0) (n .result) (n .ensures .used) (c .before .if1 .left), s .pre .1 .1 .1 .room)
 
 returns-2 : tie.Need-returns-2
 returns-2 c =
@@ -52,8 +52,8 @@ returns-2 c =
     let s = t .before .before .before .before in
     let a = s .args in
     let h = from-right (t .before .next .ensures) in
-    reads-old (s .pre .0) (a .k) (a .row) (t .before .next .result) (a .marks .now) (s .pre .1 .0) (s .pre .1 .1) h (a .k + 1 - t .spelling-length .result) (begins t)
-    (stood-marked (s .pre .0) (a .k) (a .row) (t .before .next .result) (a .marks .now) (s .pre .1 .0) (s .pre .1 .1) h (q .before .if1 .left) λ z.
+    reads-old (s .pre .0) (a .k) (a .row) (t .before .next .result) (a .marks .now) (s .pre .1 .1 .0) (s .pre .1 .1 .1) h (a .k + 1 - t .spelling-length .result) (begins t)
+    (stood-marked (s .pre .0) (a .k) (a .row) (t .before .next .result) (a .marks .now) (s .pre .1 .1 .0) (s .pre .1 .1 .1) h (q .before .if1 .left) λ z.
     c .if2 .taken (ap (λ (i : ℕ). getD (a .marks .now) i 0) (q .rank-of .ensures .0) ∙ z))
 
 returns-3 : tie.Need-returns-3
@@ -64,7 +64,7 @@ returns-3 c =
     let a = s .args in
     let h = from-right (t .before .next .ensures) in
     rw (q .rank-of .ensures .0)
-    (reads-new (s .pre .0) (a .k) (a .row) (t .before .next .result) (a .marks .now) (s .pre .1 .0) (s .pre .1 .1) h (a .k + 1 - t .spelling-length .result) (begins t) (q .before .if1 .left)
+    (reads-new (s .pre .0) (a .k) (a .row) (t .before .next .result) (a .marks .now) (s .pre .1 .1 .0) (s .pre .1 .1 .1) h (a .k + 1 - t .spelling-length .result) (begins t) (q .before .if1 .left)
     (rw (q .rank-of .ensures .0) at (c .if2 .left)))
 
 pub meet-spec : {M : Type 1} → statement M

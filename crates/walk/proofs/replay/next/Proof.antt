@@ -6,12 +6,13 @@ use mathlib.Core.Path.{_≡_, ap, _∙_, subst₂}
 use lib.ListN.{getD}
 use Rattle.palindromes.specs.Word.{Word}
 use Rattle.store.specs.Layout.{sizeIn}
-use Rattle.store.specs.Good.{ruleIn, Good}
+use Rattle.store.specs.Good.{Good}
 use Rattle.store.specs.Side.{endOf}
 use Rattle.store.specs.declared.letters.Side.{Side}
-use Rattle.walk.specs.Walk.{seenIn, Stepped}
-use Rattle.walk.specs.Replay.{Frames, lettersTowards, Holds}
-use Rattle.walk.specs.declared.replay.Frame.{Frame}
+use Rattle.walk.specs.Frame.{Frames, seenIn, partnerIn}
+use Rattle.walk.specs.Walk.{Stepped}
+use Rattle.walk.specs.Replay.{lettersTowards, Holds}
+use Rattle.walk.specs.declared.frame.Frame.{Frame}
 use Rattle.walk.proofs.Stores.{framed-letters, framed-rule, framed-within}
 use Rattle.walk.proofs.Reading.{good-chain, good-step}
 use Rattle.walk.proofs.replay.next.Statement.{statement}
@@ -19,7 +20,7 @@ use Rattle.walk.proofs.replay.next.Tie as tie
 
 -- the step over the letters that the frame shows
 stepped : {b : Word} {f : Frame} → Good b → Frames b f → (side : Side) (k row d q : ℕ) → k < sizeIn b → Holds b (lettersTowards b (endOf side)) k row
-    → d ≡ getD (seenIn b (f .reading) (f .base) (f .n) side) k 0 → Stepped b (seenIn b (f .reading) (f .base) (f .n) side) k d (ruleIn (f .reading) d) row q
+    → d ≡ getD (seenIn b f side) k 0 → Stepped b (seenIn b f side) k d (partnerIn f d) row q
     → Holds b (lettersTowards b (endOf side)) (k + 1) q
 stepped {b} g h side k row d q l a e s =
     let same = framed-letters h side in
@@ -28,20 +29,21 @@ stepped {b} g h side k row d q l a e s =
 
 seen-requires : tie.Need-seen-requires
 seen-requires c κs =
-    let p = c .before .before .pre in
-    let w = framed-within (c .frame-of .ensures) (p .0 .sized) (c .before .before .args .k + 1) (omega arith) in
+    let s = c .before in
+    let w = framed-within (s .pre .1 .0) (s .pre .0 .sized) (s .args .k + 1) (omega arith) in
     (w .letters, omega (arith, w .read))
 
 step-requires : tie.Need-step-requires
 step-requires c κs =
-    let p = c .before .before .before .pre in
-    (framed-within (c .before .frame-of .ensures) (p .0 .sized) (c .before .before .before .args .k) (omega arith), good-chain (p .0) (c .before .before .before .args .row) (p .1 .1 .used))
+    let s = c .before .before in
+    (framed-within (s .pre .1 .0) (s .pre .0 .sized) (s .args .k) (omega arith), good-chain (s .pre .0) (s .args .row) (s .pre .1 .1 .1 .used))
 
 returns : tie.Need-returns
 returns c =
-    let a = c .before .before .before .before .args in
-    let p = c .before .before .before .before .pre in
-    stepped (p .0) (c .before .before .frame-of .ensures) (a .side) (a .k) (a .row) (c .before .seen .result) (c .step .result) (p .1 .0) (p .1 .1) (c .before .seen .ensures) (c .step .ensures)
+    let s = c .before .before .before in
+    let a = s .args in
+    let seen = c .before .seen in
+    stepped (s .pre .0) (s .pre .1 .0) (a .side) (a .k) (a .row) (seen .result) (c .step .result) (s .pre .1 .1 .0) (s .pre .1 .1 .1) (seen .ensures) (c .step .ensures)
 
 pub next-spec : {M : Type 1} → statement M
-next-spec = tie.close (tie.spec (λ c κs. search needs) seen-requires step-requires returns)
+next-spec = tie.close (tie.spec seen-requires step-requires returns)

@@ -1,8 +1,8 @@
--- `walk::replay::frame_of` reads the header, which lies within a store of the right sizes. Assumes nothing.
+-- `walk::frame::frame_of` reads the header, which lies within a store of the right sizes. Assumes nothing.
 use borrow.Author.Needs.{needs}
 use Rattle.walk.proofs.Stores.{header-fits}
-use Rattle.walk.proofs.replay.frame_of.Statement.{statement}
-use Rattle.walk.proofs.replay.frame_of.Tie as tie
+use Rattle.walk.proofs.frame.frame_of.Statement.{statement}
+use Rattle.walk.proofs.frame.frame_of.Tie as tie
 
 pub frame-of-spec : {M : Type 1} → statement M
 frame-of-spec =
