@@ -114,7 +114,7 @@ pub longest-at-answered : (e : End) (b : Word) → Answerable (ask (theLongestAt
 unfolding acceptedOutcome answerTo lentAfter changed longestBefore
 longest-at-answered e b a p = carried (ask (theLongestAt e)) b nothing (a .good) (a .clear) (record { reply = p; store = refl; lent = refl })
 
-pub row-in-use : (r : ℕ) (b : Word) → Answerable (askRow r) b → usedIn b r ≡ true
+pub row-in-use : (r : ℕ) (b : Word) → Answerable (ask (theRow r)) b → usedIn b r ≡ true
 row-in-use r b a = go (usedIn b r) refl
   where
     go : (t : Bool) → usedIn b r ≡ t → usedIn b r ≡ true

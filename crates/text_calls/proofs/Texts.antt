@@ -59,7 +59,7 @@ spellable r b out n v z =
     let u : usedIn b r ≡ true = in-use (h .1) (usedIn b r) refl in
     record { good = h .0; used = u; room = space u (h .1) (leb (length (spellingOf (nodeIn b r))) (length out)) refl; clear = h .1 }
   where
-    in-use : refusal (ruleOf b) (viewIn b (lending [] out)) (spell r) ≡ 0 → (t : Bool) → usedIn b r ≡ t → usedIn b r ≡ true
+    in-use : refusal (ruleOf b) (viewIn b (lending [] out)) (ask (spell r)) ≡ 0 → (t : Bool) → usedIn b r ≡ t → usedIn b r ≡ true
     in-use k true x = x
     in-use k false x = absurd (omega (arith, spell-free b (lending [] out) r x))
 
