@@ -26,10 +26,10 @@ use Rattle.store.specs.Layout.{sizeIn, rankIn, usedIn, lettersIn}
 use Rattle.store.specs.Good.{ruleOf, nodeIn, Good}
 use Rattle.store.proofs.Sizes.{used-below, letters-length}
 use Rattle.transitions.proofs.Rows.{covers, used-rank, count-most}
-use Rattle.walk.specs.Replay.{Holds}
-use Rattle.questions.specs.Marks.{endingIn, ReadTo, ReadOn}
-use Rattle.questions.proofs.Right.{right-first}
-use Rattle.questions.proofs.Stores.{sets-over}
+use Rattle.walk.specs.Replay.{endingIn, Holds}
+use Rattle.walk.proofs.Right.{right-first}
+use Rattle.listing.specs.Marks.{ReadTo, ReadOn}
+use Rattle.listing.proofs.Stores.{sets-over}
 
 -- ---- ranks
 
@@ -59,7 +59,7 @@ module _ {b : Word} (g : Good b) where
 
   -- ---- one letter more
 
-  module _ (k row last : ℕ) (marks : Word) (l : k < sizeIn b) (a : ReadTo b k row marks) (h : Holds b (lettersIn b) (k + 1) last) where
+  module _ {k row last : ℕ} {marks : Word} (l : k < sizeIn b) (a : ReadTo b k row marks) (h : Holds b (lettersIn b) (k + 1) last) where
     -- a palindrome of the record other than the one that ends there stands if it did before
     met-other : (r : ℕ) (w : Word) → usedIn b r ≡ true → nodeIn b r ≡ spelt w → (w ≡ endingIn b (k + 1) → ⊥) → stands w (take k (lettersIn b)) ≡ stands w (take (k + 1) (lettersIn b))
     met-other r w u e n =

@@ -7,15 +7,14 @@ use lib.ListN.{length, getD, take}
 use lib.Seq.{sets}
 use Rattle.palindromes.specs.Word.{Word}
 use Rattle.palindromes.specs.Place.{stands}
-use Rattle.palindromes.specs.Record.{longestSuffix}
 use Rattle.palindromes.specs.Node.{spelt}
 use Rattle.store.specs.Layout.{sizeIn, rankIn, usedIn, lettersIn}
-use Rattle.store.specs.Good.{ruleOf, nodeIn}
-use Rattle.walk.specs.Replay.{Holds}
+use Rattle.store.specs.Good.{nodeIn}
+use Rattle.walk.specs.Replay.{endingIn, Holds}
 
--- the longest palindrome that ends the first k letters of the store
-abbrev pub endingIn : Word → ℕ → Word
-endingIn b k = longestSuffix (ruleOf b) (take k (lettersIn b))
+-- two buffers that differ in their first n bytes at most: whatever is stored over those, they are the same after it
+abbrev pub SameBehind : ℕ → Word → Word → Type 0
+SameBehind n old new = (w : Word) → n ≤ length w → sets new 0 w ≡ sets old 0 w
 
 -- where a walk over the letters is that has read the first k: at the row of the longest palindrome that ends them, with a mark at each palindrome that stands among them
 pub record ReadTo (b : Word) (k row : ℕ) (marks : Word) : Type 0 where
@@ -28,4 +27,4 @@ pub record ReadOn (b : Word) (k : ℕ) (old : Word) (row start : ℕ) (first : B
   pub reads : ReadTo b (k + 1) row marks
   pub start-is : start ≡ k + 1 - length (endingIn b (k + 1))
   pub first-is : first ≡ not (stands (endingIn b (k + 1)) (take k (lettersIn b)))
-  pub kept : (w : Word) → sizeIn b ≤ length w → sets marks 0 w ≡ sets old 0 w
+  pub kept : SameBehind (sizeIn b) old marks

@@ -1,7 +1,9 @@
-// The list of the record's palindromes as BED lines, each at its first place, ordered by end.
-use super::marks::meet;
+// The list of a good store's palindromes as BED lines, each at its first place, ordered by end.
+mod marks;
+
 use bed::line_length;
 use bed::put_line;
+use marks::meet;
 use store::bytes;
 use store::header;
 use store::rows::Row;
@@ -11,18 +13,18 @@ ghost use mathlib.Core.Bool.{true};
 ghost use Prim.Native.Nat.{_*_, _≤_, _<_};
 ghost use lib.ListN.{length, replicate};
 ghost use lib.Seq.{sets};
-ghost use Rattle.palindromes.specs.Word.{Word};
-ghost use Rattle.palindromes.specs.Bed.{isIdentifier, listing};
+ghost use Rattle.palindromes.specs.Bed.{isIdentifier};
 ghost use Rattle.store.specs.Layout.{sizeIn, lettersIn};
-ghost use Rattle.store.specs.Good.{ruleOf, Good};
-ghost use Rattle.questions.specs.Marks.{ReadTo};
+ghost use Rattle.store.specs.Good.{Good};
+ghost use Rattle.listing.specs.Listing.{listingIn};
+ghost use Rattle.listing.specs.Marks.{SameBehind, ReadTo};
 
 // Adds up the lengths of the lines, with marks that begin empty.
 fn add_lines(b: &[u8], name: &[u8], marks: &mut [u8]) -> usize
     requires { ⌜ Good (now b) ⌝ }
     requires { ⌜ isIdentifier (now name) ≡ true ⌝ }
     requires { ⌜ ReadTo (now b) 0 1 (now marks) ⌝ }
-    ensures { λ r. ⌜ r ≡ length (listing (ruleOf (now (b .entry))) (now (name .entry)) (lettersIn (now (b .entry)))) ⌝ }
+    ensures { λ r. ⌜ r ≡ length (listingIn (now (b .entry)) (now (name .entry))) ⌝ }
 {
     let f = frame_of(b);
     let mut row = Row::EMPTY;
@@ -43,7 +45,7 @@ fn add_lines(b: &[u8], name: &[u8], marks: &mut [u8]) -> usize
 pub fn listing_length(b: &[u8], name: &[u8]) -> usize
     requires { ⌜ Good (now b) ⌝ }
     requires { ⌜ isIdentifier (now name) ≡ true ⌝ }
-    ensures { λ r. ⌜ r ≡ length (listing (ruleOf (now (b .entry))) (now (name .entry)) (lettersIn (now (b .entry)))) ⌝ }
+    ensures { λ r. ⌜ r ≡ length (listingIn (now (b .entry)) (now (name .entry))) ⌝ }
 {
     let mut marks = [0u8; 1024];
     add_lines(b, name, &mut marks)
@@ -55,10 +57,10 @@ fn put_lines(b: &[u8], name: &[u8], marks: &mut [u8], out: &mut [u8]) -> usize
     requires { ⌜ Good (now b) ⌝ }
     requires { ⌜ isIdentifier (now name) ≡ true ⌝ }
     requires { ⌜ ReadTo (now b) 0 1 (now marks) ⌝ }
-    requires { ⌜ length (listing (ruleOf (now b)) (now name) (lettersIn (now b))) ≤ length (now out) ⌝ }
-    ensures written { λ _. ⌜ now (out .exit) ≡ sets (now (out .entry)) 0 (listing (ruleOf (now (b .entry))) (now (name .entry)) (lettersIn (now (b .entry)))) ⌝ }
-    ensures behind { λ r. ⌜ r ≡ length (listing (ruleOf (now (b .entry))) (now (name .entry)) (lettersIn (now (b .entry)))) ⌝ }
-    ensures kept { λ _. ⌜ ((w : Word) → sizeIn (now (b .entry)) ≤ length w → sets (now (marks .exit)) 0 w ≡ sets (now (marks .entry)) 0 w) ⌝ }
+    requires { ⌜ length (listingIn (now b) (now name)) ≤ length (now out) ⌝ }
+    ensures written { λ _. ⌜ now (out .exit) ≡ sets (now (out .entry)) 0 (listingIn (now (b .entry)) (now (name .entry))) ⌝ }
+    ensures behind { λ r. ⌜ r ≡ length (listingIn (now (b .entry)) (now (name .entry))) ⌝ }
+    ensures kept { λ _. ⌜ SameBehind (sizeIn (now (b .entry))) (now (marks .entry)) (now (marks .exit)) ⌝ }
 {
     let f = frame_of(b);
     let mut row = Row::EMPTY;
@@ -81,10 +83,10 @@ pub fn list(b: &[u8], name: &[u8], scratch: &mut [u8], out: &mut [u8]) -> usize
     requires { ⌜ Good (now b) ⌝ }
     requires { ⌜ isIdentifier (now name) ≡ true ⌝ }
     requires { ⌜ 4 * sizeIn (now b) ≤ length (now scratch) ⌝ }
-    requires { ⌜ length (listing (ruleOf (now b)) (now name) (lettersIn (now b))) ≤ length (now out) ⌝ }
+    requires { ⌜ length (listingIn (now b) (now name)) ≤ length (now out) ⌝ }
     ensures cleared { λ _. ⌜ now (scratch .exit) ≡ sets (now (scratch .entry)) 0 (replicate (4 * length (lettersIn (now (b .entry)))) 0) ⌝ }
-    ensures written { λ _. ⌜ now (out .exit) ≡ sets (now (out .entry)) 0 (listing (ruleOf (now (b .entry))) (now (name .entry)) (lettersIn (now (b .entry)))) ⌝ }
-    ensures behind { λ r. ⌜ r ≡ length (listing (ruleOf (now (b .entry))) (now (name .entry)) (lettersIn (now (b .entry)))) ⌝ }
+    ensures written { λ _. ⌜ now (out .exit) ≡ sets (now (out .entry)) 0 (listingIn (now (b .entry)) (now (name .entry))) ⌝ }
+    ensures behind { λ r. ⌜ r ≡ length (listingIn (now (b .entry)) (now (name .entry))) ⌝ }
 {
     let used = 4 * header::size(b);
     bytes::clear(scratch, used);

@@ -1,6 +1,7 @@
 // Reading the letters of a record with a mark at each palindrome that has stood so far.
-use super::spell::spelling_length;
+use spelling::spelling_length;
 use store::letters::Side;
+use store::rows::Row;
 use store::rows::rank_of;
 use walk::frame::Frame;
 use walk::replay;
@@ -8,7 +9,7 @@ ghost use Prim.Native.Nat.{_<_};
 ghost use Rattle.store.specs.Layout.{sizeIn};
 ghost use Rattle.store.specs.Good.{Good};
 ghost use Rattle.walk.specs.Frame.{Frames};
-ghost use Rattle.questions.specs.Marks.{ReadTo, ReadOn};
+ghost use Rattle.listing.specs.Marks.{ReadTo, ReadOn};
 
 // What one letter more brings: the row of the longest palindrome that ends there, where that
 // begins, and whether it stands there for the first time.
@@ -29,7 +30,7 @@ pub fn meet(b: &[u8], f: Frame, k: usize, row: usize, marks: &mut [u8]) -> Meeti
 {
     let last = replay::next(b, f, Side::Right, k, row);
     let start = k + 1 - spelling_length(b, last);
-    if last < 2 {
+    if last <= Row::EMPTY {
         return Meeting {
             row: last,
             start,

@@ -26,6 +26,7 @@ use Rattle.store.proofs.Sizes.{rule-inverse, letters-length}
 use Rattle.transitions.specs.Rows.{rowOf}
 use Rattle.transitions.proofs.Rows.{covers, row-of}
 use Rattle.alphabet.proofs.Letters.{letter-of}
+use Rattle.search.specs.Search.{isPalindromeIn}
 
 -- the letter at place j of the piece and the one facing it are partners
 abbrev pub Partners : Word → Word → ℕ → Type 0
@@ -43,14 +44,10 @@ pub record Reached (b p : Word) (k row : ℕ) : Type 0 where
 facing : (p : Word) (j : ℕ) → length p - suc j ≡ length p - 1 - j
 facing p j = omega arith
 
--- whether the piece is a palindrome of the record
-abbrev pub isRepeat : Word → Word → Bool
-isRepeat b p = member p (palindromes (ruleOf b) (lettersIn b))
-
 module _ {b : Word} (g : Good b) (p : Word) where
   -- a piece longer than the record
-  pub too-long : sizeIn b < length p → isRepeat b p ≡ false
-  too-long h = not-true-false (isRepeat b p) λ m. omega (arith, letters-length (g .sized), stands-length (palindromes-true (ruleOf b) p (lettersIn b) m .1))
+  pub too-long : sizeIn b < length p → isPalindromeIn b p ≡ false
+  too-long h = not-true-false (isPalindromeIn b p) λ m. omega (arith, letters-length (g .sized), stands-length (palindromes-true (ruleOf b) p (lettersIn b) m .1))
 
   -- it sets out at the root in the centre
   pub reached-first : (row : ℕ) → row ≡ cond (eqb (length p % 2) 0) 1 0 → Reached b p (length p / 2) row
@@ -71,7 +68,7 @@ module _ {b : Word} (g : Good b) (p : Word) where
 
   module _ (k row : ℕ) (a : Reached b p k row) where
     -- the whole piece has been read: it is a palindrome of the record, and the row is its own
-    pub reached-last : (p ≡ [] → ⊥) → k ≡ length p → (isRepeat b p ≡ true) × (rowOf b (spelt p) ≡ row)
+    pub reached-last : (p ≡ [] → ⊥) → k ≡ length p → (isPalindromeIn b p ≡ true) × (rowOf b (spelt p) ≡ row)
     reached-last n e =
         let s : Symmetric (ruleOf b) p = symmetric-by-letters (ruleOf b) (rule-inverse (readingIn b)) p λ j l m. rw (facing p j) (a .across j l (omega arith)) in
         let h : nodeIn b row ≡ spelt p = cc (a .holds, reached-whole (ruleOf b) p s) in
@@ -80,8 +77,8 @@ module _ {b : Word} (g : Good b) (p : Word) where
 
     module _ (l : k < length p) where
       -- the letters at the next place are not partners
-      pub not-facing : (Partners b p k → ⊥) → isRepeat b p ≡ false
-      not-facing n = not-true-false (isRepeat b p) λ m. n (rw (← (facing p k)) (symmetric-at (ruleOf b) p (palindromes-true (ruleOf b) p (lettersIn b) m .0 .symmetric) k l))
+      pub not-facing : (Partners b p k → ⊥) → isPalindromeIn b p ≡ false
+      not-facing n = not-true-false (isPalindromeIn b p) λ m. n (rw (← (facing p k)) (symmetric-at (ruleOf b) p (palindromes-true (ruleOf b) p (lettersIn b) m .0 .symmetric) k l))
 
       module _ (z : allLetters p ≡ true) (q : ℕ) (e : q ≡ edgeIn b row (getD p k 0)) where
         abbrev next : Word
@@ -91,7 +88,7 @@ module _ {b : Word} (g : Good b) (p : Word) where
         letter = letter-of p k l z
 
         -- there is no edge by the next letter
-        pub no-edge : q ≡ 0 → isRepeat b p ≡ false
+        pub no-edge : q ≡ 0 → isPalindromeIn b p ≡ false
         no-edge f =
             missing-edge (ruleOf b) (lettersIn b) p k (a .low) l
             (rw (← (a .holds)) (not-true-false (member next (palindromes (ruleOf b) (lettersIn b))) λ m.

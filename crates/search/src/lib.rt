@@ -1,4 +1,4 @@
-// The search for a piece among the palindromes of the record.
+// The search for a piece among the palindromes of a good store's record, from its centre outwards.
 use outcome::answers::Found;
 use store::header;
 use store::letters::partner;
@@ -9,13 +9,9 @@ ghost use mathlib.Core.Bool.{true, cond};
 ghost use Prim.Native.Nat.{_<_, _%_};
 ghost use lib.Dec.{eqb};
 ghost use lib.ListN.{length};
-ghost use Rattle.palindromes.specs.Word.{allLetters, member};
-ghost use Rattle.palindromes.specs.Record.{palindromes};
-ghost use Rattle.palindromes.specs.Node.{spelt};
-ghost use Rattle.store.specs.Layout.{lettersIn};
-ghost use Rattle.store.specs.Good.{ruleOf, Good};
-ghost use Rattle.transitions.specs.Rows.{rowOf};
-ghost use Rattle.outcome.specs.Answers.{foundOf};
+ghost use Rattle.palindromes.specs.Word.{allLetters};
+ghost use Rattle.store.specs.Good.{Good};
+ghost use Rattle.search.specs.Search.{foundIn};
 
 // The row in the centre of a palindrome of n letters: the empty string's for an even number, the
 // imaginary string's for an odd one.
@@ -33,7 +29,7 @@ fn centre(n: usize) -> usize
 pub fn find(b: &[u8], piece: &[u8]) -> Found
     requires { ⌜ Good (now b) ⌝ }
     requires { ⌜ (0 < length (now piece)) × (allLetters (now piece) ≡ true) ⌝ }
-    ensures { λ r. ⌜ r ≡ foundOf (member (now (piece .entry)) (palindromes (ruleOf (now (b .entry))) (lettersIn (now (b .entry))))) (rowOf (now (b .entry)) (spelt (now (piece .entry)))) ⌝ }
+    ensures { λ r. ⌜ r ≡ foundIn (now (b .entry)) (now (piece .entry)) ⌝ }
 {
     if header::size(b) < piece.len() {
         return Found::Absent;

@@ -43,44 +43,53 @@ module _ {b : Word} (g : Good b) (r : ℕ) (u : usedIn b r ≡ true) where
   pub outer-byte : 2 ≤ r → outerIn b r < 256
   outer-byte l = letter-byte (outerIn b r) (outer-letter g r u l)
 
-  module _ (l : 2 ≤ r) (i : ℕ) (e : i ≡ innerIn b r) where
-    -- its inner row is used, and stores a smaller length
-    pub inner-used : usedIn b i ≡ true
-    inner-used = rw e (covers g .inner-is r u .0)
+-- a row that is no root, with its inner row i and its outer letter c
+pub record Around (b : Word) (r i c : ℕ) : Type 0 where
+  pub good : Good b
+  pub used : usedIn b r ≡ true
+  pub high : 2 ≤ r
+  pub inner-is : i ≡ innerIn b r
+  pub outer-is : c ≡ outerIn b r
 
-    pub inner-less : cell b i 0 < cell b r 0
-    inner-less = omega (arith, length-row g r u, length-row g i inner-used, rw (← e) at (inner-falls (covers g) r u λ z. omega arith))
+module _ {b : Word} {r i c : ℕ} (a : Around b r i c) where
+  -- its inner row is used, and stores a smaller length
+  pub inner-used : usedIn b i ≡ true
+  inner-used = rw (a .inner-is) (covers (a .good) .inner-is r (a .used) .0)
 
-    -- around row 0 it spells its outer letter
-    spells-letter : i ≡ 0 → spellingOf (nodeIn b r) ≡ outerIn b r ∷ []
-    unfolding spellingOf around
-    spells-letter z = cc (covers g .outer-is r u l, covers g .row-zero .1)
+  pub inner-less : cell b i 0 < cell b r 0
+  inner-less =
+      let g = a .good in
+      omega (arith, length-row g r (a .used), length-row g i inner-used, rw (← (a .inner-is)) at (inner-falls (covers g) r (a .used) λ z. omega (arith, a .high)))
 
-    -- around any other row that row's word between the partner of its outer letter and that letter
-    spells-around : (i ≡ 0 → ⊥) → spellingOf (nodeIn b r) ≡ ruleOf b (outerIn b r) ∷ spellingOf (nodeIn b i) ++ (outerIn b r ∷ [])
-    unfolding spellingOf around
-    spells-around n = rw (covers g .outer-is r u l, ← e) (go (nodeIn b i) refl)
-      where
-        go : (v : Node) → nodeIn b i ≡ v → around (ruleOf b) (outerIn b r) v ≡ ruleOf b (outerIn b r) ∷ spellingOf v ++ (outerIn b r ∷ [])
-        go imaginary z = absurd (n (imaginary-row (covers g) i inner-used z))
-        go (spelt w) z = refl
+  -- around row 0 it spells its outer letter
+  spells-letter : i ≡ 0 → spellingOf (nodeIn b r) ≡ c ∷ []
+  unfolding spellingOf around
+  spells-letter z = cc (covers (a .good) .outer-is r (a .used) (a .high), covers (a .good) .row-zero .1)
 
-    -- so it is written by its outer letter alone
-    pub written-letter : (out : Word) (at c : ℕ) → c ≡ outerIn b r → i ≡ 0 → set out at c ≡ sets out at (spellingOf (nodeIn b r))
-    written-letter out at c o z = rw (spells-letter z, o)
+  -- around any other row that row's word between the partner of its outer letter and that letter
+  spells-around : (i ≡ 0 → ⊥) → spellingOf (nodeIn b r) ≡ ruleOf b c ∷ spellingOf (nodeIn b i) ++ (c ∷ [])
+  unfolding spellingOf around
+  spells-around n = rw (covers (a .good) .outer-is r (a .used) (a .high), ← (a .inner-is), ← (a .outer-is)) (go (nodeIn b i) refl)
+    where
+      go : (v : Node) → nodeIn b i ≡ v → around (ruleOf b) c v ≡ ruleOf b c ∷ spellingOf v ++ (c ∷ [])
+      go imaginary z = absurd (n (imaginary-row (covers (a .good)) i inner-used z))
+      go (spelt w) z = refl
 
-    pub letter-length : i ≡ 0 → length (spellingOf (nodeIn b r)) ≡ 1
-    letter-length z = ap length (spells-letter z)
+  -- so it is written by its outer letter alone
+  pub letter-length : i ≡ 0 → length (spellingOf (nodeIn b r)) ≡ 1
+  letter-length z = ap length (spells-letter z)
 
-    -- or by what its inner row spells, one place further, and then its outer letters
-    pub around-length : (i ≡ 0 → ⊥) → length (spellingOf (nodeIn b r)) ≡ length (spellingOf (nodeIn b i)) + 2
-    around-length n = rw (spells-around n) (omega (arith, length-append (spellingOf (nodeIn b i)) (outerIn b r ∷ [])))
+  pub written-letter : (out : Word) (at : ℕ) → i ≡ 0 → set out at c ≡ sets out at (spellingOf (nodeIn b r))
+  written-letter out at z = rw (spells-letter z)
 
-    pub written-around : (out inside : Word) (at x c n : ℕ) → (i ≡ 0 → ⊥) → inside ≡ sets out (at + 1) (spellingOf (nodeIn b i)) → c ≡ outerIn b r → x ≡ ruleOf b c
-        → n ≡ length (spellingOf (nodeIn b r)) → set (set inside at x) (at + n - 1) c ≡ sets out at (spellingOf (nodeIn b r))
-    written-around out inside at x c n z h o p m =
-        let w = spellingOf (nodeIn b i) in
-        let d = outerIn b r in
-        let place : at + n - 1 ≡ at + suc (length w) = omega (arith, around-length z) in
-        let front : set inside at x ≡ sets out at (ruleOf b d ∷ w) = rw (h, p, o, add-one) (sets-cons out at (suc at) (ruleOf b d) w (omega arith)) in
-        cc (place, front, o, spells-around z, sets-snoc out at (ruleOf b d ∷ w) (suc (length w)) d refl)
+  -- or by what its inner row spells, one place further, and then its outer letters
+  pub around-length : (i ≡ 0 → ⊥) → length (spellingOf (nodeIn b r)) ≡ length (spellingOf (nodeIn b i)) + 2
+  around-length n = rw (spells-around n) (omega (arith, length-append (spellingOf (nodeIn b i)) (c ∷ [])))
+
+  pub written-around : (out inside : Word) (at x n : ℕ) → (i ≡ 0 → ⊥) → inside ≡ sets out (at + 1) (spellingOf (nodeIn b i)) → x ≡ ruleOf b c → n ≡ length (spellingOf (nodeIn b r))
+      → set (set inside at x) (at + n - 1) c ≡ sets out at (spellingOf (nodeIn b r))
+  written-around out inside at x n z h p m =
+      let w = spellingOf (nodeIn b i) in
+      let place : at + n - 1 ≡ at + suc (length w) = omega (arith, around-length z) in
+      let front : set inside at x ≡ sets out at (ruleOf b c ∷ w) = rw (h, p, add-one) (sets-cons out at (suc at) (ruleOf b c) w (omega arith)) in
+      cc (place, front, spells-around z, sets-snoc out at (ruleOf b c ∷ w) (suc (length w)) c refl)

@@ -1,4 +1,5 @@
-// Spelling a row: its palindrome written outwards from the inner row into a lent buffer.
+// Spelling a row of a good store: how many letters its palindrome has, and the palindrome itself,
+// written outwards from the inner row into a lent buffer.
 use store::header;
 use store::lengths;
 use store::letters::partner;
@@ -35,14 +36,14 @@ fn last_letter(b: &[u8], r: usize) -> u8
 }
 
 // Writes row r's palindrome from the place `at` on: first what stands between its outer letters,
-// then these. Rows 0 and 1 spell nothing.
+// then these. The roots spell nothing.
 fn spell_at(b: &[u8], r: usize, out: &mut [u8], at: usize)
     requires { ⌜ Good (now b) ⌝ }
     requires { ⌜ usedIn (now b) r ≡ true ⌝ }
     requires { ⌜ at + length (spellingOf (nodeIn (now b) r)) ≤ length (now out) ⌝ }
     ensures { λ _. ⌜ now (out .exit) ≡ sets (now (out .entry)) at (spellingOf (nodeIn (now (b .entry)) r)) ⌝ }
 {
-    if r < 2 {
+    if r <= Row::EMPTY {
         return;
     }
     let c = last_letter(b, r);

@@ -11,11 +11,8 @@ use bed::is_identifier;
 use outcome::answers::Found;
 use outcome::pack;
 use outcome::refuse;
-use questions::find;
-use questions::list;
 use questions::record;
 use questions::rows;
-use questions::spell;
 
 // The refusal number of spelling a row, 0 where it can be spelt.
 fn judge_spell(store: &[u8], row: u64, out: &[u8]) -> u64
@@ -27,7 +24,7 @@ fn judge_spell(store: &[u8], row: u64, out: &[u8]) -> u64
     if !rows::is_used(store, row as usize) {
         return 7;
     }
-    if out.len() < spell::spelling_length(store, row as usize) {
+    if out.len() < spelling::spelling_length(store, row as usize) {
         return 9;
     }
     0
@@ -41,7 +38,7 @@ pub fn spell_row(store: &[u8], row: u64, out: &mut [u8]) -> u64
     if number != 0 {
         return refuse(number);
     }
-    pack(false, 0, spell::spell(store, row as usize, out), 0)
+    pack(false, 0, spelling::spell(store, row as usize, out), 0)
 }
 
 // The refusal number of finding a piece, 0 where it can be searched.
@@ -68,7 +65,7 @@ pub fn find_piece(store: &[u8], piece: &[u8]) -> u64
     if number != 0 {
         return refuse(number);
     }
-    let Found::At(row) = find::find(store, piece) else {
+    let Found::At(row) = search::find(store, piece) else {
         return pack(false, 0, 0, 0);
     };
     pack(true, row, 0, 0)
@@ -87,7 +84,7 @@ fn judge_list(store: &[u8], name: &[u8], scratch: &[u8], out: &[u8]) -> u64
     if scratch.len() < 4 * record::length(store) {
         return 9;
     }
-    if out.len() < list::listing_length(store, name) {
+    if out.len() < listing::listing_length(store, name) {
         return 9;
     }
     0
@@ -101,5 +98,5 @@ pub fn list_repeats(store: &[u8], name: &[u8], scratch: &mut [u8], out: &mut [u8
     if number != 0 {
         return refuse(number);
     }
-    pack(false, 0, list::list(store, name, scratch, out), 0)
+    pack(false, 0, listing::list(store, name, scratch, out), 0)
 }

@@ -1,5 +1,5 @@
 -- Reading the letters of a good store from left to right: the longest palindrome that ends the letters read is what the row come to spells, and it is no longer than they are.
--- Rests on the replay of walk and on `longest-suffix` of palindromes.
+-- Rests on `Reading` and on `longest-suffix` of palindromes.
 use Prim.Native.Nat.{ℕ, _≤_}
 use native.Mathlib.Omega.{arith}
 use mathlib.Core.Path.{_≡_, ap}
@@ -9,13 +9,12 @@ use Rattle.palindromes.specs.End.{atRight}
 use Rattle.palindromes.specs.Node.{Node, spellingOf}
 use Rattle.palindromes.proofs.Words.{suffix-length}
 use Rattle.palindromes.proofs.Longest.{longest-suffix}
+use Rattle.eertree.proofs.Covers.{shows-covers}
 use Rattle.store.specs.Layout.{lettersIn}
 use Rattle.store.specs.Good.{ruleOf, nodeIn, Good}
 use Rattle.store.specs.Writes.{towards}
-use Rattle.transitions.proofs.Rows.{covers}
-use Rattle.walk.specs.Replay.{lettersTowards, Holds}
+use Rattle.walk.specs.Replay.{lettersTowards, endingIn, Holds}
 use Rattle.walk.proofs.Reading.{holds-first}
-use Rattle.questions.specs.Marks.{endingIn}
 
 module _ {b : Word} {k r : ℕ} where
   -- to the right the letters are read as they stand
@@ -34,7 +33,7 @@ module _ {b : Word} {k r : ℕ} where
 
 -- before the first letter that is the empty string
 pub right-first : {b : Word} → Good b → Holds b (lettersIn b) 0 1
-right-first {b} g = holds-first b (lettersIn b) (covers g)
+right-first {b} g = holds-first b (lettersIn b) (shows-covers (g .table))
 
 -- it has no more letters than were read
 pub ending-most : (b : Word) (k : ℕ) → length (endingIn b k) ≤ k

@@ -1,10 +1,10 @@
--- `questions::list::listing_length` lends as many empty marks as the largest record has letters. Assumes nothing.
+-- `listing::listing_length` lends as many empty marks as the largest record has letters. Assumes nothing.
 use native.Mathlib.Omega.{arith}
 use borrow.Author.Needs.{needs}
 use lib.ListN.{replicate, getD-replicate}
-use Rattle.questions.proofs.Marking.{reads-first}
-use Rattle.questions.proofs.list.listing_length.Statement.{statement}
-use Rattle.questions.proofs.list.listing_length.Tie as tie
+use Rattle.listing.proofs.Marking.{reads-first}
+use Rattle.listing.proofs.listing_length.Statement.{statement}
+use Rattle.listing.proofs.listing_length.Tie as tie
 
 add-lines-requires : tie.Need-add-lines-requires
 add-lines-requires c κs =

@@ -1,4 +1,4 @@
--- `questions::find::find` searches from the centre outwards. The loop's invariant: the row is that of the node reached so far, and the letters read face their partners. The measure is
+-- `search::find` searches from the centre outwards. The loop's invariant: the row is that of the node reached so far, and the letters read face their partners. The measure is
 -- what is left of the piece. Assumes nothing.
 use Prim.Native.Nat.{ℕ, _-_}
 use native.Mathlib.Omega.{arith}
@@ -7,15 +7,22 @@ use lib.ListN.{length, getD}
 use Rattle.store.specs.Good.{ruleIn, ruleOf}
 use Rattle.transitions.proofs.Rows.{used-fits}
 use Rattle.walk.proofs.Stores.{header-fits}
-use Rattle.questions.proofs.Finding.{Reached, too-long, reached-first, reached-next, reached-last, not-facing, no-edge}
-use Rattle.questions.proofs.find.find.Statement.{statement}
-use Rattle.questions.proofs.find.find.Tie as tie
+use Rattle.search.proofs.Finding.{Reached, too-long, reached-first, reached-next, reached-last, not-facing, no-edge}
+use Rattle.search.proofs.find.Statement.{statement}
+use Rattle.search.proofs.find.Tie as tie
 
 abbrev Inv-loop : tie.InvT-loop
 Inv-loop b piece reading row₀ k₀ row k = Reached b piece k row
 
 abbrev μ-loop : tie.MeasureT-loop
 μ-loop b piece reading row₀ k₀ row k = length piece - k
+
+-- the entry, from the loop, and the loop, from behind the partner of the next letter
+abbrev from-loop : tie.At-loop Inv-loop μ-loop → tie.Start Inv-loop μ-loop
+from-loop c = c .before .before .before .before .before .before .before
+
+abbrev from-partner : tie.After-partner Inv-loop μ-loop → tie.At-loop Inv-loop μ-loop
+from-partner c = c .before .before .before .before
 
 returns : tie.Need-returns Inv-loop μ-loop
 returns c =
@@ -27,40 +34,44 @@ loop-holds c = let s = c .before .before .before .before .before .before in reac
 
 -- what the letter that faces the next one must be
 wanted : (c : tie.After-partner Inv-loop μ-loop)
-    → c .partner .result ≡ ruleOf (c .before .before .before .before .before .before .before .before .before .before .before .args .b .now) (getD (c .before .before .before .before .before .before .before .before .before .before .before .args .piece .now) (c .before .before .before .before .loop .k) 0)
-wanted c = let s = c .before .before .before .before .before .before .before .before .before .before .before in c .partner .ensures ∙ ap (λ (reading : ℕ). ruleIn reading (getD (s .args .piece .now) (c .before .before .before .before .loop .k) 0)) (c .before .before .before .before .before .before .reading .ensures .0)
+    → c .partner .result ≡ ruleOf (from-loop (from-partner c) .args .b .now) (getD (from-loop (from-partner c) .args .piece .now) (from-partner c .loop .k) 0)
+wanted c =
+    let t = from-partner c in
+    c .partner .ensures ∙ ap (λ (reading : ℕ). ruleIn reading (getD (from-loop t .args .piece .now) (t .loop .k) 0)) (t .before .before .reading .ensures .0)
 
 returns-2 : tie.Need-returns-2 Inv-loop μ-loop
 returns-2 c =
-    let t = c .before in
-    let i = t .before .before .before .before .loop in
-    let s = t .before .before .before .before .before .before .before .before .before .before .before in
-    rw (not-facing (s .pre .0) (s .args .piece .now) (i .k) (i .row) (i .inv) (t .before .before .before .loop-test .taken) λ f. c .if2 .taken (f ∙ sym (wanted t)))
+    let p = c .before in
+    let i = from-partner p .loop in
+    let s = from-loop (from-partner p) in
+    rw (not-facing (s .pre .0) (s .args .piece .now) (i .k) (i .row) (i .inv) (p .before .before .before .loop-test .taken) λ f. c .if2 .taken (f ∙ sym (wanted p)))
 
 edge-of-requires : tie.Need-edge-of-requires Inv-loop μ-loop
 edge-of-requires c κs =
-    let i = c .before .before .before .before .before .loop in
-    used-fits (c .before .before .before .before .before .before .before .before .before .before .before .before .pre .0) (i .row) (i .inv .used)
+    let t = from-partner (c .before) in
+    used-fits (from-loop t .pre .0) (t .loop .row) (t .loop .inv .used)
 
 returns-3 : tie.Need-returns-3 Inv-loop μ-loop
 returns-3 c =
-    let t = c .before .before .before in
-    let i = t .before .before .before .before .loop in
-    let s = t .before .before .before .before .before .before .before .before .before .before .before in
-    rw (no-edge (s .pre .0) (s .args .piece .now) (i .k) (i .row) (i .inv) (t .before .before .before .loop-test .taken) (s .pre .1 .1) (c .before .edge-of .result) (c .before .edge-of .ensures .0) (c .if3 .taken))
+    let edge = c .before .edge-of in
+    let p = c .before .before .before in
+    let i = from-partner p .loop in
+    let s = from-loop (from-partner p) in
+    rw (no-edge (s .pre .0) (s .args .piece .now) (i .k) (i .row) (i .inv) (p .before .before .before .loop-test .taken) (s .pre .1 .1) (edge .result) (edge .ensures .0) (c .if3 .taken))
 
 loop-again : tie.Need-loop-again Inv-loop μ-loop
 loop-again c =
-    let t = c .before .before .before in
-    let i = t .before .before .before .before .loop in
-    let s = t .before .before .before .before .before .before .before .before .before .before .before in
-    reached-next (s .pre .0) (s .args .piece .now) (i .k) (i .row) (i .inv) (t .before .before .before .loop-test .taken) (s .pre .1 .1) (c .before .edge-of .result) (c .before .edge-of .ensures .0)
-    (c .before .before .if2 .left ∙ wanted t) (c .if3 .left)
+    let edge = c .before .edge-of in
+    let p = c .before .before .before in
+    let i = from-partner p .loop in
+    let s = from-loop (from-partner p) in
+    reached-next (s .pre .0) (s .args .piece .now) (i .k) (i .row) (i .inv) (p .before .before .before .loop-test .taken) (s .pre .1 .1) (edge .result) (edge .ensures .0)
+    (c .before .before .if2 .left ∙ wanted p) (c .if3 .left)
 
 returns-4 : tie.Need-returns-4 Inv-loop μ-loop
 returns-4 c =
     let i = c .before .loop in
-    let s = c .before .before .before .before .before .before .before .before in
+    let s = from-loop (c .before) in
     let h = reached-last (s .pre .0) (s .args .piece .now) (i .k) (i .row) (i .inv) (λ n. omega (arith, ap length n, s .pre .1 .0)) (omega (arith, i .inv .high, c .loop-test .left)) in
     rw (h .0, h .1)
 

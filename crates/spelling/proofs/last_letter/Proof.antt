@@ -1,10 +1,10 @@
--- `questions::spell::last_letter` reads the row's outer letter, which is a byte. Assumes nothing.
+-- `spelling::last_letter` reads the row's outer letter, which is a byte. Assumes nothing.
 use native.Mathlib.Omega.{arith}
 use borrow.Author.Needs.{needs}
 use Rattle.transitions.proofs.Rows.{used-fits}
-use Rattle.questions.proofs.Spellings.{outer-byte}
-use Rattle.questions.proofs.spell.last_letter.Statement.{statement}
-use Rattle.questions.proofs.spell.last_letter.Tie as tie
+use Rattle.spelling.proofs.Spellings.{outer-byte}
+use Rattle.spelling.proofs.last_letter.Statement.{statement}
+use Rattle.spelling.proofs.last_letter.Tie as tie
 
 cast-result : tie.Need-cast-result
 cast-result c =

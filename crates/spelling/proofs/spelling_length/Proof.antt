@@ -1,4 +1,4 @@
--- `questions::spell::spelling_length` reads the stored length, which is one more than the number of letters, and knows row 0 by its number. Assumes nothing.
+-- `spelling::spelling_length` reads the stored length, which is one more than the number of letters, and knows row 0 by its number. Assumes nothing.
 use Prim.Native.Nat.{suc}
 use native.Mathlib.Omega.{arith}
 use borrow.Author.Needs.{needs}
@@ -8,9 +8,9 @@ use Rattle.palindromes.specs.Node.{spellingOf}
 use Rattle.store.specs.Good.{nodeIn}
 use Rattle.store.proofs.Signed.{kept}
 use Rattle.transitions.proofs.Rows.{used-fits}
-use Rattle.questions.proofs.Spellings.{spells-root, spells-length}
-use Rattle.questions.proofs.spell.spelling_length.Statement.{statement}
-use Rattle.questions.proofs.spell.spelling_length.Tie as tie
+use Rattle.spelling.proofs.Spellings.{spells-root, spells-length}
+use Rattle.spelling.proofs.spelling_length.Statement.{statement}
+use Rattle.spelling.proofs.spelling_length.Tie as tie
 
 returns : tie.Need-returns
 returns c = let s = c .before .before in sym (ap length (spells-root (s .pre .0) (s .args .r) (s .pre .1) (omega (arith, c .if1 .taken))))

@@ -1,71 +1,75 @@
--- `questions::marks::meet` reads a letter more and marks the row that it leads to. Assumes nothing.
+-- `listing::marks::meet` reads a letter more and marks the row that it leads to. Assumes nothing.
 use Prim.Native.Nat.{ℕ, _+_, _-_, _<_}
 use native.Mathlib.Omega.{arith}
 use borrow.Author.Needs.{needs}
 use mathlib.Core.Path.{_≡_, ap, _∙_}
 use lib.ListN.{length, getD}
+use Rattle.store.specs.Layout.{lettersIn}
 use Rattle.transitions.proofs.Rows.{used-fits}
-use Rattle.questions.specs.Marks.{endingIn}
-use Rattle.questions.proofs.Right.{to-right, from-right, ending-length, ending-most}
-use Rattle.questions.proofs.Marking.{rank-below, stood-root, stood-marked, reads-old, reads-new}
-use Rattle.questions.proofs.marks.meet.Statement.{statement}
-use Rattle.questions.proofs.marks.meet.Tie as tie
+use Rattle.walk.specs.Replay.{endingIn, Holds}
+use Rattle.walk.proofs.Right.{to-right, from-right, ending-length, ending-most}
+use Rattle.listing.proofs.Marking.{rank-below, stood-root, stood-marked, reads-old, reads-new}
+use Rattle.listing.proofs.marks.meet.Statement.{statement}
+use Rattle.listing.proofs.marks.meet.Tie as tie
 
--- the palindrome that ends the letters read now, and where it begins
-here : (c : tie.After-spelling-length) → c .spelling-length .result ≡ length (endingIn (c .before .before .before .before .args .b .now) (c .before .before .before .before .args .k + 1))
-here c = c .spelling-length .ensures ∙ ending-length (from-right (c .before .next .ensures))
+-- the entry, from behind the reading of the letter, and that place, from behind the reading of the rank
+abbrev from-length : tie.After-spelling-length → tie.Start
+from-length c = c .before .before .before .before
+
+abbrev from-rank : tie.After-rank-of → tie.After-spelling-length
+from-rank c = c .before .before
+
+-- the palindrome that ends the letters read now: its row, how long it is and where it begins
+ending : (c : tie.After-spelling-length) → Holds (from-length c .args .b .now) (lettersIn (from-length c .args .b .now)) (from-length c .args .k + 1) (c .before .next .result)
+ending c = from-right (c .before .next .ensures)
+
+here : (c : tie.After-spelling-length) → c .spelling-length .result ≡ length (endingIn (from-length c .args .b .now) (from-length c .args .k + 1))
+here c = c .spelling-length .ensures ∙ ending-length (ending c)
 
 begins : (c : tie.After-spelling-length)
-    → c .before .before .before .before .args .k + 1 - c .spelling-length .result
-    ≡ c .before .before .before .before .args .k + 1 - length (endingIn (c .before .before .before .before .args .b .now) (c .before .before .before .before .args .k + 1))
-begins c = ap (λ (n : ℕ). c .before .before .before .before .args .k + 1 - n) (here c)
+    → from-length c .args .k + 1 - c .spelling-length .result ≡ from-length c .args .k + 1 - length (endingIn (from-length c .args .b .now) (from-length c .args .k + 1))
+begins c = ap (λ (n : ℕ). from-length c .args .k + 1 - n) (here c)
 
 next-requires : tie.Need-next-requires
-next-requires c κs = let s = c .before .before in (s .pre .0, (s .pre .1 .0, (s .pre .1 .1 .0, to-right (s .pre .1 .1 .1 .ends))))
+next-requires c κs = let p = c .before .before .pre in (p .0, (p .1 .0, (p .1 .1 .0, to-right (p .1 .1 .1 .ends))))
 
 sub-start : tie.Need-sub-start
-sub-start c = let a = c .before .before .before .before .args in omega (arith, here c, ending-most (a .b .now) (a .k + 1))
+sub-start c = let a = from-length c .args in omega (arith, here c, ending-most (a .b .now) (a .k + 1))
 
 returns : tie.Need-returns
 returns c =
     let t = c .before in
-    let s = t .before .before .before .before in
-    let a = s .args in
-    let h = from-right (t .before .next .ensures) in
-    reads-old (s .pre .0) (a .k) (a .row) (t .before .next .result) (a .marks .now) (s .pre .1 .1 .0) (s .pre .1 .1 .1) h (a .k + 1 - t .spelling-length .result) (begins t)
-    (stood-root (s .pre .0) (a .k) (a .row) (t .before .next .result) (a .marks .now) (s .pre .1 .1 .0) (s .pre .1 .1 .1) h (c .if1 .taken))
+    let p = from-length t .pre in
+    reads-old (p .0) (p .1 .1 .0) (p .1 .1 .1) (ending t) _ (begins t) (stood-root (p .0) (p .1 .1 .0) (p .1 .1 .1) (ending t) (omega (arith, c .if1 .taken)))
 
 rank-of-requires : tie.Need-rank-of-requires
-rank-of-requires c κs = let n = c .before .before .next in used-fits (c .before .before .before .before .before .pre .0) (n .result) (n .ensures .used)
+rank-of-requires c κs =
+    let t = c .before in
+    used-fits (from-length t .pre .0) (t .before .next .result) (ending t .used)
 
 -- a mark has its place
-marked : (c : tie.After-rank-of) → c .rank-of .result < length (c .before .before .before .before .before .before .args .marks .now)
+marked : (c : tie.After-rank-of) → c .rank-of .result < length (from-length (from-rank c) .args .marks .now)
 marked c =
-    let s = c .before .before .before .before .before .before in
-    let n = c .before .before .before .next in
-    omega (arith, c .rank-of .ensures .0, rank-below (s .pre .0) (n .result) (n .ensures .used) (c .before .if1 .left), s .pre .1 .1 .1 .room)
+    let t = from-rank c in
+    let p = from-length t .pre in
+    omega (arith, c .rank-of .ensures .0, rank-below (p .0) (t .before .next .result) (ending t .used) (c .before .if1 .left), p .1 .1 .1 .room)
 
 returns-2 : tie.Need-returns-2
 returns-2 c =
     let q = c .before .before in
-    let t = q .before .before in
-    let s = t .before .before .before .before in
-    let a = s .args in
-    let h = from-right (t .before .next .ensures) in
-    reads-old (s .pre .0) (a .k) (a .row) (t .before .next .result) (a .marks .now) (s .pre .1 .1 .0) (s .pre .1 .1 .1) h (a .k + 1 - t .spelling-length .result) (begins t)
-    (stood-marked (s .pre .0) (a .k) (a .row) (t .before .next .result) (a .marks .now) (s .pre .1 .1 .0) (s .pre .1 .1 .1) h (q .before .if1 .left) λ z.
-    c .if2 .taken (ap (λ (i : ℕ). getD (a .marks .now) i 0) (q .rank-of .ensures .0) ∙ z))
+    let t = from-rank q in
+    let p = from-length t .pre in
+    let marks = from-length t .args .marks .now in
+    reads-old (p .0) (p .1 .1 .0) (p .1 .1 .1) (ending t) _ (begins t)
+    (stood-marked (p .0) (p .1 .1 .0) (p .1 .1 .1) (ending t) (q .before .if1 .left) λ z. c .if2 .taken (ap (λ (i : ℕ). getD marks i 0) (q .rank-of .ensures .0) ∙ z))
 
 returns-3 : tie.Need-returns-3
 returns-3 c =
     let q = c .before .before in
-    let t = q .before .before in
-    let s = t .before .before .before .before in
-    let a = s .args in
-    let h = from-right (t .before .next .ensures) in
-    rw (q .rank-of .ensures .0)
-    (reads-new (s .pre .0) (a .k) (a .row) (t .before .next .result) (a .marks .now) (s .pre .1 .1 .0) (s .pre .1 .1 .1) h (a .k + 1 - t .spelling-length .result) (begins t) (q .before .if1 .left)
-    (rw (q .rank-of .ensures .0) at (c .if2 .left)))
+    let t = from-rank q in
+    let p = from-length t .pre in
+    let rank = q .rank-of .ensures .0 in
+    rw rank (reads-new (p .0) (p .1 .1 .0) (p .1 .1 .1) (ending t) _ (begins t) (q .before .if1 .left) (rw rank at (c .if2 .left)))
 
 pub meet-spec : {M : Type 1} → statement M
 meet-spec =
