@@ -7,7 +7,6 @@ use alphabet::all_letters;
 use outcome::answers::Found;
 use outcome::pack;
 use outcome::refuse;
-use questions::find;
 
 // The refusal number of finding a piece, 0 where it can be searched.
 fn judge_find(store: &[u8], piece: &[u8]) -> u64
@@ -33,7 +32,7 @@ pub fn find_piece(store: &[u8], piece: &[u8]) -> u64
     if number != 0 {
         return refuse(number);
     }
-    let Found::At(row) = find::find(store, piece) else {
+    let Found::At(row) = search::find(store, piece) else {
         return pack(false, 0, 0, 0);
     };
     pack(true, row, 0, 0)

@@ -6,7 +6,6 @@ ghost use Rattle.outcome.specs.Verdict.{Verdict};
 use bed::is_identifier;
 use outcome::pack;
 use outcome::refuse;
-use questions::list;
 use questions::record;
 
 // The refusal number of listing, 0 where the list can be written.
@@ -22,7 +21,7 @@ fn judge_list(store: &[u8], name: &[u8], scratch: &[u8], out: &[u8]) -> u64
     if scratch.len() < 4 * record::length(store) {
         return 9;
     }
-    if out.len() < list::listing_length(store, name) {
+    if out.len() < listing::listing_length(store, name) {
         return 9;
     }
     0
@@ -36,5 +35,5 @@ pub fn list_repeats(store: &[u8], name: &[u8], scratch: &mut [u8], out: &mut [u8
     if number != 0 {
         return refuse(number);
     }
-    pack(false, 0, list::list(store, name, scratch, out), 0)
+    pack(false, 0, listing::list(store, name, scratch, out), 0)
 }

@@ -1,5 +1,4 @@
 // The record that a text's letters make, and its list.
-use questions::list;
 use store::letters::Side;
 ghost use mathlib.Core.Path.{_≡_};
 ghost use mathlib.Core.Bool.{true};
@@ -46,5 +45,5 @@ pub fn list_letters(name: &[u8], letters: &[u8], out: &mut [u8]) -> usize
     let mut scratch = [0u8; 4096];
     opening::open(&mut store, 1024);
     fill(&mut store, letters);
-    list::list(&store, name, &mut scratch, out)
+    listing::list(&store, name, &mut scratch, out)
 }

@@ -11,7 +11,7 @@ use lib.ListN.{length}
 use Rattle.palindromes.specs.Word.{Word}
 use Rattle.palindromes.specs.Palindrome.{Symmetric}
 use Rattle.palindromes.specs.Place.{stands, standsOnce}
-use Rattle.palindromes.specs.End.{End, removed, longestAt}
+use Rattle.palindromes.specs.End.{End, removed}
 use Rattle.palindromes.proofs.Words.{same-or-not}
 use Rattle.palindromes.proofs.Places.{stands-is, stands-empty}
 use Rattle.palindromes.proofs.Longest.{longest-suffix}
@@ -24,10 +24,7 @@ use Rattle.store.proofs.Sizes.{rule-inverse, letters-length}
 use Rattle.transitions.proofs.Rows.{covers}
 use Rattle.walk.specs.Replay.{lettersTowards, Surveyed}
 use Rattle.walk.proofs.Towards.{towards-removed, longest-towards, stands-towards-test}
-
--- the longest at the end
-abbrev pub longestIn : Word → End → Word
-longestIn b e = longestAt (ruleOf b) e (lettersIn b)
+use Rattle.questions.specs.Ends.{longestIn}
 
 module _ {b : Word} (g : Good b) (e : End) (some : 0 < sizeIn b) where
   -- it stands once only exactly if it does not stand in the letters without the last one at the end

@@ -1,5 +1,5 @@
 // The longest palindrome of the record: its length and its leftmost place.
-use super::spell::spelling_length;
+use spelling::spelling_length;
 use store::letters::Side;
 use store::rows::Row;
 use walk::frame::frame_of;

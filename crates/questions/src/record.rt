@@ -1,5 +1,6 @@
 // The record as a whole: how many letters, how many palindromes, and the letter at a place.
 use store::header;
+use walk::frame::frame_of;
 ghost use mathlib.Core.Path.{_≡_};
 ghost use Prim.Native.Nat.{_<_};
 ghost use lib.ListN.{length, getD};
@@ -29,6 +30,6 @@ pub fn letter(b: &[u8], i: usize) -> u8
     requires { ⌜ i < length (lettersIn (now b)) ⌝ }
     ensures { λ r. ⌜ r ≡ getD (lettersIn (now (b .entry))) i 0 ⌝ }
 {
-    let at = 24 * (header::capacity(b) + 2) + i;
-    b[at]
+    let base = frame_of(b).base;
+    b[base + i]
 }

@@ -1,6 +1,7 @@
 // The rows of the table: which are in use, and what each says of its palindrome.
 use store::header;
 use store::rows;
+use store::rows::Row;
 ghost use mathlib.Core.Path.{_≡_};
 ghost use mathlib.Core.Bool.{true};
 ghost use Prim.Native.Nat.{_+_, _<_};
@@ -15,7 +16,7 @@ pub fn is_used(b: &[u8], r: usize) -> bool
     requires { ⌜ Good (now b) ⌝ }
     ensures { λ u. ⌜ u ≡ usedIn (now (b .entry)) r ⌝ }
 {
-    if r < 2 {
+    if r <= Row::EMPTY {
         return true;
     }
     if header::capacity(b) + 2 <= r {

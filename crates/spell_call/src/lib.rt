@@ -7,7 +7,6 @@ ghost use Rattle.outcome.specs.Verdict.{Verdict};
 use outcome::pack;
 use outcome::refuse;
 use questions::rows;
-use questions::spell;
 
 // The refusal number of spelling a row, 0 where it can be spelt.
 fn judge_spell(store: &[u8], row: u64, out: &[u8]) -> u64
@@ -19,7 +18,7 @@ fn judge_spell(store: &[u8], row: u64, out: &[u8]) -> u64
     if !rows::is_used(store, row as usize) {
         return 7;
     }
-    if out.len() < spell::spelling_length(store, row as usize) {
+    if out.len() < spelling::spelling_length(store, row as usize) {
         return 9;
     }
     0
@@ -33,5 +32,5 @@ pub fn spell_row(store: &[u8], row: u64, out: &mut [u8]) -> u64
     if number != 0 {
         return refuse(number);
     }
-    pack(false, 0, spell::spell(store, row as usize, out), 0)
+    pack(false, 0, spelling::spell(store, row as usize, out), 0)
 }

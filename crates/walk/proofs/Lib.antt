@@ -4,3 +4,4 @@ pub mod Found
 pub mod Towards
 pub mod Stores
 pub mod Reading
+pub mod Right

@@ -2,11 +2,11 @@
 -- Assumes nothing.
 use Prim.Native.Nat.{ℕ, _+_, _≤_}
 use native.Mathlib.Omega.{arith}
-use mathlib.Core.Path.{_≡_, ap, _∙_}
+use mathlib.Core.Path.{_≡_, ap}
 use lib.ListN.{length}
 use Rattle.palindromes.specs.Word.{Word}
 use Rattle.palindromes.specs.Refusal.{storeSize}
-use Rattle.store.specs.Layout.{capacityIn, sizeIn, readingIn, usedIn, lettersAt, lettersIn}
+use Rattle.store.specs.Layout.{capacityIn, sizeIn, usedIn, lettersAt, lettersIn}
 use Rattle.store.specs.Good.{ruleIn, ruleOf, Sized}
 use Rattle.store.specs.Side.{endOf}
 use Rattle.store.specs.declared.letters.Side.{Side}

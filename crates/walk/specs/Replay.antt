@@ -21,6 +21,10 @@ abbrev pub letterTowards : (ℕ → ℕ) → End → ℕ → ℕ
 letterTowards σ atRight c = c
 letterTowards σ atLeft c = σ c
 
+-- the longest palindrome that ends the first k letters of the store
+abbrev pub endingIn : Word → ℕ → Word
+endingIn b k = longestSuffix (ruleOf b) (take k (lettersIn b))
+
 -- row r of the store is used, and holds the longest palindrome that ends the first k letters of t
 pub record Holds (b t : Word) (k r : ℕ) : Type 0 where
   pub used : usedIn b r ≡ true

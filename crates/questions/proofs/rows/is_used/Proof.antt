@@ -11,7 +11,7 @@ use Rattle.questions.proofs.rows.is_used.Statement.{statement}
 use Rattle.questions.proofs.rows.is_used.Tie as tie
 
 returns : tie.Need-returns
-returns c = let a = c .before .before .args in sym (used-root (a .b .now) (a .r) (c .if1 .taken))
+returns c = let a = c .before .before .args in sym (used-root (a .b .now) (a .r) (omega (arith, c .if1 .taken)))
 
 returns-2 : tie.Need-returns-2
 returns-2 c =

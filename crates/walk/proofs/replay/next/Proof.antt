@@ -1,7 +1,6 @@
 -- `walk::replay::next` steps over the next letter of a good store. Assumes nothing.
 use Prim.Native.Nat.{ℕ, _+_, _<_}
 use native.Mathlib.Omega.{arith}
-use borrow.Author.Needs.{needs}
 use mathlib.Core.Path.{_≡_, ap, _∙_, subst₂}
 use lib.ListN.{getD}
 use Rattle.palindromes.specs.Word.{Word}

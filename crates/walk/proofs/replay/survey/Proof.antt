@@ -20,7 +20,9 @@ abbrev μ-loop : tie.MeasureT-loop
 loop-holds : tie.Need-loop-holds Inv-loop μ-loop
 loop-holds c =
     let s = c .before .before in
-    (omega arith, surveyed-first (s .args .b .now) (lettersTowards (s .args .b .now) (endOf (s .args .side))) (covers-read (s .pre .0) (endOf (s .args .side))) (s .args .row) (s .pre .1 .1 .0) (s .pre .1 .1 .1))
+    let b = s .args .b .now in
+    let e = endOf (s .args .side) in
+    (omega arith, surveyed-first b (lettersTowards b e) (covers-read (s .pre .0) e) (s .args .row) (s .pre .1 .1 .0) (s .pre .1 .1 .1))
 
 next-requires : tie.Need-next-requires Inv-loop μ-loop
 next-requires c κs =
