@@ -1,5 +1,5 @@
-// Runs the functions of the crate reference, which are proved equal to the definitions, over figures
-// that others published, and writes a line for each fact. The file `stdout` has the published ones.
+// Runs the reference functions, which are proved equal to the definitions, over figures that others
+// published, and writes a line for each fact. The file `stdout` has the published ones.
 mod repeated;
 mod rich;
 mod show;

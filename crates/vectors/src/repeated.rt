@@ -1,7 +1,5 @@
 // A record of one letter, of the greatest length: every stretch is a palindrome.
 use crate::show;
-use reference::counting;
-use reference::places;
 ghost use mathlib.Core.Path.{_≡_};
 ghost use lib.ListN.{length};
 
@@ -10,7 +8,7 @@ const PLAIN: [u8; 0] = [];
 pub fn show() {
     show::title(b"1024 times A");
     let s = record();
-    show::line(b"count", counting::count(&PLAIN, &s));
+    show::line(b"count", reference_listing::count(&PLAIN, &s));
     show::line(b"by place", by_place(&s));
 }
 
@@ -26,7 +24,7 @@ fn by_place(s: &[u8]) -> usize {
     let mut e = 0;
     while e < s.len() {
         e += 1;
-        total = std::num::wrapping_add_usize(total, places::frequency(&s[..e], s));
+        total = std::num::wrapping_add_usize(total, reference_places::frequency(&s[..e], s));
     }
     total
 }

@@ -1,6 +1,5 @@
 // Rich binary strings: those that have as many palindromes as letters.
 use crate::show;
-use reference::counting;
 
 const PLAIN: [u8; 0] = [];
 
@@ -30,7 +29,7 @@ fn number(w: &mut [u8], all: usize) -> usize {
     while x < all {
         spell(x, w);
         x += 1;
-        if counting::count(&PLAIN, w) == w.len() {
+        if reference_listing::count(&PLAIN, w) == w.len() {
             rich += 1;
         }
     }

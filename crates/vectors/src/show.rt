@@ -1,8 +1,5 @@
 // One line for each fact: the word, what is asked of it, and the answer.
 use libc::STDOUT_FILENO;
-use reference::counting;
-use reference::ends;
-use reference::places;
 
 // The empty table: every byte is its own partner.
 const PLAIN: [u8; 0] = [];
@@ -47,40 +44,40 @@ pub fn line(name: &[u8], n: usize) {
 }
 
 pub fn count(s: &[u8]) {
-    answer(s, b" count", counting::count(&PLAIN, s));
+    answer(s, b" count", reference_listing::count(&PLAIN, s));
 }
 
 pub fn link(v: &[u8]) {
-    answer(v, b" link", ends::link_length(&PLAIN, v));
+    answer(v, b" link", reference_ends::link_length(&PLAIN, v));
 }
 
 pub fn right_end(s: &[u8]) {
-    answer(s, b" right end", ends::longest_suffix(&PLAIN, s));
+    answer(s, b" right end", reference_ends::longest_suffix(&PLAIN, s));
 }
 
 pub fn stands(p: &[u8], s: &[u8]) {
     question(p, b" stands in ");
-    answer(s, b"", places::stands(p, s) as usize);
+    answer(s, b"", reference_places::stands(p, s) as usize);
 }
 
 pub fn longest(s: &[u8]) {
     question(s, b" longest");
-    item(counting::longest_length(&PLAIN, s));
-    answer(b"", b" at", counting::longest_place(&PLAIN, s));
+    item(reference_longest::longest_length(&PLAIN, s));
+    answer(b"", b" at", reference_longest::longest_place(&PLAIN, s));
 }
 
 // Every palindrome at its first place.
 pub fn list(rule: &[u8], s: &[u8]) {
     question(s, b" list");
-    let n = counting::count(rule, s);
+    let n = reference_listing::count(rule, s);
     if n == 0 {
         question(b"", b" none");
     }
     let mut k = 0;
     while k < n {
         stretch(
-            counting::nth_place(rule, s, k),
-            counting::nth_length(rule, s, k),
+            reference_listing::nth_place(rule, s, k),
+            reference_listing::nth_length(rule, s, k),
         );
         k += 1;
     }
@@ -93,7 +90,7 @@ pub fn right_ends(s: &[u8]) {
     let mut e = 0;
     while e < s.len() {
         e += 1;
-        item(ends::longest_suffix(&PLAIN, &s[..e]));
+        item(reference_ends::longest_suffix(&PLAIN, &s[..e]));
     }
     line_end();
 }
@@ -101,11 +98,11 @@ pub fn right_ends(s: &[u8]) {
 // The palindromes that stand once while what is left without their first and last letter does not.
 pub fn minimal_unique(s: &[u8]) {
     question(s, b" minimal unique");
-    let n = counting::count(&PLAIN, s);
+    let n = reference_listing::count(&PLAIN, s);
     let mut k = 0;
     while k < n {
-        let at = counting::nth_place(&PLAIN, s, k);
-        let length = counting::nth_length(&PLAIN, s, k);
+        let at = reference_listing::nth_place(&PLAIN, s, k);
+        let length = reference_listing::nth_length(&PLAIN, s, k);
         if is_minimal_unique(s, part(s, at, length)) {
             stretch(at, length);
         }
@@ -115,14 +112,14 @@ pub fn minimal_unique(s: &[u8]) {
 }
 
 fn is_minimal_unique(s: &[u8], w: &[u8]) -> bool {
-    if !places::stands_once(w, s) {
+    if !reference_places::stands_once(w, s) {
         return false;
     }
     let n = w.len();
     if n < 2 {
         return true;
     }
-    !places::stands_once(&w[1..n - 1], s)
+    !reference_places::stands_once(&w[1..n - 1], s)
 }
 
 // The letters from `at` on, as many as length says; none where the record is shorter.
