@@ -11,7 +11,7 @@ use borrow.Author.Tests.{leb-true}
 use Rattle.palindromes.specs.Word.{Word, member}
 use Rattle.palindromes.specs.Place.{Stands, firstPlace}
 use Rattle.palindromes.specs.Record.{palindromes, count}
-use Rattle.palindromes.specs.Bed.{allIdentifierBytes, isIdentifier, bedLine, bedLines, listing}
+use Rattle.palindromes.specs.Bed.{allIdentifierBytes, isIdentifier, bedLines, listing}
 use Rattle.palindromes.proofs.Tests.{both-true}
 use Rattle.palindromes.proofs.Lists.{member-first, member-later}
 use Rattle.palindromes.proofs.Places.{first-end-fits}

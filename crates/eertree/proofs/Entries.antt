@@ -3,14 +3,14 @@ use Prim.Native.Nat.{ℕ}
 use native.Mathlib.Omega.{arith}
 use mathlib.Core.Path.{_≡_, refl, sym, ap, ap₂, _∙_, subst}
 use mathlib.Core.Bool.{Bool, true, false, cond}
-use mathlib.Core.List.{List, [], _∷_, map, List·Memᴰ, List·Memᴰ·head, List·Memᴰ·tail, List·Memᴰ·not-nil, List·Memᴰ·cases-cons, Memᴰ·map, Memᴰ·of-map}
+use mathlib.Core.List.{List, [], _∷_, map, List·Memᴰ, List·Memᴰ·head, List·Memᴰ·tail, List·Memᴰ·cases-cons, Memᴰ·map, Memᴰ·of-map}
 use mathlib.Core.Logic.{_⊎_, ⊎-elim}
-use mathlib.Core.Option.{Option, none, some}
+use mathlib.Core.Option.{none, some}
 use lib.Dec.{eqb}
 use borrow.Author.Tests.{eqb-true}
 use Rattle.palindromes.specs.Word.{Word, alphabet, isLetter, member}
 use Rattle.palindromes.specs.Record.{palindromes}
-use Rattle.palindromes.specs.Node.{Node, imaginary, spelt, lengthOf, linkOf, innerOf, spellingOf, around, isNode}
+use Rattle.palindromes.specs.Node.{Node, imaginary, spelt, spellingOf, around, isNode}
 use Rattle.palindromes.specs.Eertree.{nodes, edgeOf, Entry, entryOf, eertree, Table, Shows}
 use Rattle.palindromes.proofs.Tests.{false-not-true, not-true-false}
 use Rattle.palindromes.proofs.Lists.{Once, member-true, member-is}

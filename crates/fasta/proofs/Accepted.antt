@@ -11,7 +11,7 @@ use lib.Seq.{length-take-le}
 use borrow.Author.Tests.{leb-true}
 use Rattle.palindromes.specs.Word.{Word, isLetter, allLetters}
 use Rattle.palindromes.specs.Bed.{isIdentifierByte, allIdentifierBytes, isIdentifier}
-use Rattle.palindromes.specs.Fasta.{Fasta, refused, accepted, identifierLength, endsIdentifier, goodFirstLine, afterFirstLine, Kind, secondHeader, lineEnd, beforeLf, letter, other, kindOf, Body, fault, letters, withLetter, readByte, readLines, withIdentifier, readFasta}
+use Rattle.palindromes.specs.Fasta.{refused, accepted, identifierLength, endsIdentifier, goodFirstLine, afterFirstLine, Kind, secondHeader, lineEnd, beforeLf, letter, other, kindOf, Body, fault, letters, withLetter, readByte, readLines, withIdentifier, readFasta}
 use Rattle.palindromes.proofs.Tests.{both-true}
 use Rattle.fasta.proofs.LaterLines.{letter-kind}
 use Rattle.fasta.proofs.Writing.{no-fault}

@@ -11,7 +11,7 @@ use Rattle.palindromes.specs.Place.{standsOnce}
 use Rattle.palindromes.specs.Record.{longestLength, longestPlace}
 use Rattle.palindromes.specs.End.{End, longestAt}
 use Rattle.palindromes.specs.Node.{spelt}
-use Rattle.palindromes.specs.Refusal.{Call, ask, theLongest, theLongestAt, faults, questionFaults, refusal}
+use Rattle.palindromes.specs.Refusal.{ask, theLongest, theLongestAt, faults, questionFaults, refusal}
 use Rattle.palindromes.proofs.Words.{no-letters}
 use Rattle.store.specs.Layout.{sizeIn, lettersIn}
 use Rattle.store.specs.Good.{ruleOf, Good}
@@ -19,7 +19,7 @@ use Rattle.store.proofs.Sizes.{letters-length}
 use Rattle.transitions.specs.Rows.{rowOf}
 use Rattle.transitions.specs.Removal.{longestBefore}
 use Rattle.outcome.specs.Reply.{packed, accepted}
-use Rattle.outcome.specs.Outcome.{viewIn, acceptedOutcome, answerTo, lentAfter, changed}
+use Rattle.outcome.specs.Outcome.{acceptedOutcome, answerTo, lentAfter, changed}
 use Rattle.outcome.specs.Promise.{nothing, Promise}
 use Rattle.outcome.specs.Verdict.{Verdict, damaged, judged}
 use Rattle.outcome.proofs.Refusals.{longest-none, longest-accepted, longest-at-none}

@@ -2,7 +2,7 @@
 -- good store's letters, rows and lists.
 use Prim.Native.Nat.{ℕ, zero, suc, _≤_, _<_}
 use native.Mathlib.Omega.{arith}
-use mathlib.Core.Path.{_≡_, refl, sym, ap, subst}
+use mathlib.Core.Path.{_≡_, refl, ap}
 use mathlib.Core.Bool.{Bool, true, false, cond}
 use mathlib.Core.List.{List, [], _∷_, cons-ne-nil}
 use lib.ListN.{length, getD, length-append}
@@ -24,7 +24,7 @@ use Rattle.transitions.specs.Addition.{longestAfter, bringsIn, rowAfter}
 use Rattle.transitions.specs.Removal.{longestBefore, takesOut}
 use Rattle.transitions.proofs.Letters.{letter-byte, letter-at-end}
 use Rattle.transitions.proofs.Rows.{row-of-small, row-small, free-below, covers}
-use Rattle.outcome.specs.Reply.{Reply, Fits, accepted, refusedWith, answered, twosComplement}
+use Rattle.outcome.specs.Reply.{Fits, accepted, refusedWith, answered, twosComplement}
 use Rattle.outcome.specs.Answers.{addedOf, addedReply, removedOf, removedReply, foundOf, foundReply, foundAnswer}
 use Rattle.outcome.specs.Outcome.{Lent, viewIn, acceptedOutcome, changed, refusedOutcome, unlessRefused, outcome, answerTo}
 use Rattle.outcome.proofs.Refusals.{number-other, add-allowed, row-used, spell-used, list-named}

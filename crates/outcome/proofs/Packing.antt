@@ -1,7 +1,7 @@
 -- A reply whose fields fit their bytes can be read back from the number that packs it. Assumes nothing.
-use Prim.Native.Nat.{ℕ, _+_, _*_, _/_, _%_, _<_}
+use Prim.Native.Nat.{_<_}
 use native.Mathlib.Omega.{arith}
-use mathlib.Core.Path.{_≡_, refl, sym, ap, _∙_}
+use mathlib.Core.Path.{_≡_, refl, ap}
 use mathlib.Core.Bool.{Bool, true, false}
 use lib.Dec.{eqb}
 use Rattle.outcome.specs.Reply.{Reply, bit, packed, Fits, refusalIn, flagIn, rowIn, firstIn, secondIn, unpacked}

@@ -3,9 +3,9 @@
 use Prim.Native.Nat.{ℕ, zero, suc}
 use mathlib.Core.Path.{_≡_, refl, sym, ap, _∙_, subst}
 use Rattle.palindromes.specs.Word.{Word}
-use Rattle.palindromes.specs.Refusal.{Call, opening, fault, faults, refusal}
+use Rattle.palindromes.specs.Refusal.{Call, opening, faults, refusal}
 use Rattle.store.specs.Good.{ruleOf, Good}
-use Rattle.outcome.specs.Reply.{Reply, Fits, packed, unpacked}
+use Rattle.outcome.specs.Reply.{Fits, packed, unpacked}
 use Rattle.outcome.specs.Outcome.{Lent, Outcome, viewIn, changed, acceptedOutcome, refusedOutcome, unlessRefused, outcome}
 use Rattle.outcome.specs.Promise.{nothing, Left, Promise, OpeningPromise}
 use Rattle.outcome.proofs.Packing.{unpack-packed}

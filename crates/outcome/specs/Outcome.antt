@@ -2,7 +2,6 @@
 use Prim.Native.Nat.{ℕ, zero, suc, _*_}
 use mathlib.Core.Path.{_≡_}
 use mathlib.Core.Bool.{true, false, cond}
-use mathlib.Core.List.{[]}
 use mathlib.Core.Option.{none, some}
 use lib.ListN.{length, getD, replicate}
 use lib.Seq.{sets}

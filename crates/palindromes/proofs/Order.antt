@@ -6,7 +6,7 @@ use native.Mathlib.Omega.{arith}
 use mathlib.Core.Path.{_≡_, refl, ap, _∙_}
 use mathlib.Core.Bool.{true}
 use mathlib.Core.Logic.{⊎-elim}
-use mathlib.Core.List.{List, [], _∷_, _++_, map, append-assoc, append-nil, map-append, cons-ne-nil}
+use mathlib.Core.List.{List, [], _∷_, _++_, map, append-assoc, append-nil, map-append}
 use mathlib.Core.List.{List·Memᴰ, List·Memᴰ·head, List·Memᴰ·tail, List·Memᴰ·not-nil, List·Memᴰ·cases-cons, List·Memᴰ·append-cases, List·Memᴰ·eq-of-singleton, Memᴰ·cast, Memᴰ·map, Memᴰ·of-map}
 use native.Mathlib.Decide.{decLe}
 use lib.Dec.{eqb}
@@ -14,7 +14,7 @@ use lib.ListN.{length, take, length-append, length-map}
 use lib.Seq.{take-at}
 use borrow.Author.Tests.{eqb-true, eq-eqb}
 use Rattle.palindromes.specs.Word.{Word, member, keep}
-use Rattle.palindromes.specs.Palindrome.{plain, mirror, Palindrome}
+use Rattle.palindromes.specs.Palindrome.{Palindrome}
 use Rattle.palindromes.specs.Place.{Prefix, Stands, firstPlace}
 use Rattle.palindromes.specs.Record.{palindromes, count, greatest, least, longestLength, longestPlace, longestSuffix}
 use Rattle.palindromes.proofs.Tests.{both-true, both-are}

@@ -8,11 +8,11 @@ use lib.ListN.{length, getD}
 use borrow.Author.Tests.{leb-true, leb-false}
 use Rattle.palindromes.specs.Word.{Word}
 use Rattle.palindromes.specs.Record.{count}
-use Rattle.palindromes.specs.Refusal.{Call, ask, theLength, theCount, theLetter, refusal}
+use Rattle.palindromes.specs.Refusal.{ask, theLength, theCount, theLetter}
 use Rattle.store.specs.Layout.{lettersIn}
 use Rattle.store.specs.Good.{ruleOf, Good}
 use Rattle.outcome.specs.Reply.{packed, accepted}
-use Rattle.outcome.specs.Outcome.{viewIn, acceptedOutcome, answerTo, lentAfter, changed}
+use Rattle.outcome.specs.Outcome.{acceptedOutcome, answerTo, lentAfter, changed}
 use Rattle.outcome.specs.Promise.{nothing, Promise}
 use Rattle.outcome.specs.Verdict.{Verdict, judged}
 use Rattle.outcome.proofs.Refusals.{length-accepted, count-accepted, letter-outside, letter-accepted}

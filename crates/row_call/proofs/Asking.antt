@@ -4,10 +4,9 @@ use mathlib.Core.Path.{_≡_, refl, sym, ap, _∙_}
 use mathlib.Core.Bool.{true, false}
 use native.Mathlib.Omega.{arith}
 use lib.IntN.{ℤ, pos, predℤ}
-use lib.ListN.{length}
 use Rattle.palindromes.specs.Word.{Word}
 use Rattle.palindromes.specs.Node.{lengthOf, linkOf, innerOf}
-use Rattle.palindromes.specs.Refusal.{Call, ask, theRow, refusal}
+use Rattle.palindromes.specs.Refusal.{ask, theRow}
 use Rattle.eertree.proofs.Rows.{reachOf, reach-length, row-reach-most}
 use Rattle.store.specs.Layout.{usedIn}
 use Rattle.store.specs.Good.{ruleOf, nodeIn, Good}
@@ -16,7 +15,7 @@ use Rattle.store.proofs.Sizes.{letters-length}
 use Rattle.transitions.specs.Rows.{rowOf}
 use Rattle.transitions.proofs.Rows.{covers}
 use Rattle.outcome.specs.Reply.{packed, accepted, twosComplement}
-use Rattle.outcome.specs.Outcome.{viewIn, acceptedOutcome, answerTo, lentAfter, changed}
+use Rattle.outcome.specs.Outcome.{acceptedOutcome, answerTo, lentAfter, changed}
 use Rattle.outcome.specs.Promise.{nothing, Promise}
 use Rattle.outcome.specs.Verdict.{Verdict, judged}
 use Rattle.outcome.proofs.Refusals.{row-accepted, row-free, row-used}

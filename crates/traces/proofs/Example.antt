@@ -13,7 +13,7 @@ use Rattle.palindromes.specs.Palindrome.{mirror, isSymmetric, Palindrome}
 use Rattle.palindromes.specs.Place.{Stands, startsWith, placesFrom, places, frequency, stands, standsOnce}
 use Rattle.palindromes.specs.Record.{longestSuffix}
 use Rattle.palindromes.specs.End.{atLeft, atRight, added, removed, withoutLast, longestAt}
-use Rattle.palindromes.specs.Node.{spelt, linkOf, innerOf}
+use Rattle.palindromes.specs.Node.{linkOf, innerOf}
 use Rattle.palindromes.specs.Refusal.{theRow, spell, find, Call, opening, add, remove, ask, storeSize, refusal}
 use Rattle.palindromes.proofs.Tests.{false-not-true}
 use Rattle.palindromes.proofs.Places.{stands-is}
@@ -25,7 +25,7 @@ use Rattle.outcome.specs.Promise.{nothing, OpeningPromise}
 use Rattle.outcome.proofs.Refusals.{opening-accepted, opening-capacity, add-letter, carried-out}
 use Rattle.outcome.proofs.Told.{opening-told}
 use Rattle.traces.specs.Run.{Step, storeAfter, Run, begun, lettersStep, lettersAfter, rowAfter}
-use Rattle.traces.specs.Claims.{Replies, SameAnswer, numberOf, Kept, Called, EachCall, Undone, Claims}
+use Rattle.traces.specs.Claims.{Replies, numberOf, Kept, Called, EachCall, Undone, Claims}
 use Rattle.traces.proofs.Theorem.{every-list, always-good}
 use Rattle.traces.proofs.Possible.{stepOf, MayStand, keeps-contract, goes-on}
 

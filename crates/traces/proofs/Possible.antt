@@ -1,6 +1,6 @@
 -- The theorem's hypotheses can be met: what a call comes to by the definitions keeps the contract, so a list from an opening goes on with any call but an accepted opening.
 -- And a store that no opening made need not be good: one of zeros never is.
-use Prim.Native.Nat.{ℕ, zero, suc, _+_, _*_}
+use Prim.Native.Nat.{ℕ, zero, suc}
 use native.Mathlib.Omega.{arith}
 use mathlib.Core.Path.{_≡_, refl, sym, ap, _∙_, subst}
 use mathlib.Core.List.{List, _∷_}

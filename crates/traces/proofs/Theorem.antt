@@ -15,7 +15,7 @@ use Rattle.palindromes.specs.Node.{Node, imaginary, spelt, linkOf, innerOf}
 use Rattle.palindromes.specs.Refusal.{Question, theRow, find, Call, opening, add, remove, ask, storeSize, refusal}
 use Rattle.palindromes.proofs.Words.{stands-of-empty}
 use Rattle.eertree.specs.Covers.{NodeOf}
-use Rattle.store.specs.Layout.{readingIn, lettersIn}
+use Rattle.store.specs.Layout.{lettersIn}
 use Rattle.store.specs.Good.{ruleIn, ruleOf, Good}
 use Rattle.transitions.specs.Opening.{usedBytes, openingWrites, opened}
 use Rattle.transitions.specs.Rows.{rowOf}
@@ -24,9 +24,9 @@ use Rattle.transitions.specs.Removal.{longestBefore, takesOut}
 use Rattle.transitions.specs.Bytes.{Bytes}
 use Rattle.transitions.proofs.AddedRuns.{bytes-set, bytes-writes}
 use Rattle.transitions.proofs.Opening.{opened-capacity, opened-letters, opened-good}
-use Rattle.outcome.specs.Reply.{Reply, packed, accepted, refusedWith, answered, refusalIn, unpacked}
-use Rattle.outcome.specs.Outcome.{Lent, Outcome, viewIn, changed, answerTo, acceptedOutcome, refusedOutcome, unlessRefused, outcome}
-use Rattle.outcome.specs.Promise.{nothing, Left, Promise, OpeningPromise}
+use Rattle.outcome.specs.Reply.{Reply, packed, accepted, refusedWith, refusalIn, unpacked}
+use Rattle.outcome.specs.Outcome.{Lent, Outcome, viewIn, changed, acceptedOutcome, refusedOutcome, unlessRefused, outcome}
+use Rattle.outcome.specs.Promise.{nothing, OpeningPromise}
 use Rattle.outcome.proofs.Refusals.{number-other, opening-room}
 use Rattle.outcome.proofs.Replies.{reply-of-added, reply-of-removed}
 use Rattle.outcome.proofs.Told.{Told, told, opening-told}

@@ -19,8 +19,6 @@ use Rattle.transitions.specs.Addition.{longestAfter, bringsIn, afterAddition}
 use Rattle.transitions.specs.Removal.{longestBefore, takesOut, afterRemoval}
 use Rattle.transitions.proofs.Rows.{row-of}
 use Rattle.transitions.proofs.Added as Updates·Added
-use Rattle.transitions.proofs.Added.{addition}
-use Rattle.transitions.proofs.Removed.{removal}
 use Rattle.transitions.proofs.Undone.{undone, takes-back}
 use Rattle.outcome.specs.Reply.{Reply, accepted}
 use Rattle.outcome.specs.Outcome.{Lent, Outcome, outcome, acceptedOutcome, changed}

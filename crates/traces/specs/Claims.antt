@@ -12,7 +12,7 @@ use Rattle.palindromes.specs.Palindrome.{Palindrome}
 use Rattle.palindromes.specs.Place.{Stands, stands, standsOnce}
 use Rattle.palindromes.specs.End.{End, added, removed, letterAt, longestAt, newIn}
 use Rattle.palindromes.specs.Node.{Node, imaginary, spelt, linkOf, innerOf}
-use Rattle.palindromes.specs.Refusal.{Question, theRow, spell, find, Call, add, remove, ask, refusal}
+use Rattle.palindromes.specs.Refusal.{Question, theRow, spell, find, add, remove, ask, refusal}
 use Rattle.eertree.specs.Entries.{IsEertree}
 use Rattle.store.specs.Layout.{capacityIn, readingIn, lettersIn}
 use Rattle.store.specs.Good.{ruleIn, tableIn, nodeIn, Good}
