@@ -2,7 +2,6 @@
 // the letter alone joins the record.
 use growth::Growth;
 use outcome::answers::Added;
-use store::letters;
 use store::letters::Side;
 use store::rows;
 use walk::frame;
@@ -27,7 +26,7 @@ fn add_known(b: &mut [u8], side: Side, c: u8, q: usize)
     let f = frame::frame_of(b);
     let longest = rows::length_of(b, q);
     let opposite = ends::across(b, side, longest, f.n + 1, q);
-    letters::join(b, f.base, f.n, side, c);
+    joining::join(b, f.base, f.n, side, c);
     ends::settle(b, side, f.n + 1, q, opposite);
 }
 

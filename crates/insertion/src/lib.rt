@@ -1,7 +1,6 @@
 // A letter that brings in a palindrome is added: the palindrome's row is hung into the table, in the
 // next free row.
 use store::header;
-use store::letters;
 use store::letters::Side;
 use store::rows;
 use store::rows::Row;
@@ -41,7 +40,7 @@ pub fn insert(b: &mut [u8], side: Side, c: u8, row: Row) -> usize
     let count = header::count(b);
     let r = rows::order_of(b, count);
     let opposite = ends::across(b, side, row.length, f.n + 1, r);
-    letters::join(b, f.base, f.n, side, c);
+    joining::join(b, f.base, f.n, side, c);
     hang(b, r, row, count);
     ends::settle(b, side, f.n + 1, r, opposite);
     r

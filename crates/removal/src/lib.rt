@@ -54,7 +54,7 @@ fn take_out(b: &mut [u8], side: Side, p: Parting)
     ensures { λ _. ⌜ now (b .exit) ≡ afterRemoval (endOf side) (now (b .entry)) ⌝ }
 {
     let f = frame::frame_of(b);
-    letters::leave(b, f.base, f.n, side);
+    joining::leave(b, f.base, f.n, side);
     freeing::free(b, p.row);
     ends::settle(b, side, f.n - 1, p.last, p.opposite);
 }
@@ -67,7 +67,7 @@ fn leave_rows(b: &mut [u8], side: Side, p: Parting)
     ensures { λ _. ⌜ now (b .exit) ≡ afterRemoval (endOf side) (now (b .entry)) ⌝ }
 {
     let f = frame::frame_of(b);
-    letters::leave(b, f.base, f.n, side);
+    joining::leave(b, f.base, f.n, side);
     ends::settle(b, side, f.n - 1, p.last, p.opposite);
 }
 

@@ -1,14 +1,14 @@
--- `store::letters::leave` closes the gap of a letter that comes first, and clears the last place. Assumes nothing.
+-- `joining::leave` closes the gap of a letter that comes first, and clears the last place. Assumes nothing.
 use Prim.Native.Nat.{_+_, _-_}
 use native.Mathlib.Omega.{arith}
 use mathlib.Core.Path.{sym, ap, _∙_}
 use borrow.Author.Needs.{needs}
 use lib.ListN.{set}
 use Rattle.palindromes.specs.End.{atLeft, atRight}
 use Rattle.store.proofs.Parts.{sets-same}
 use Rattle.store.proofs.Ends.{parted}
-use Rattle.store.proofs.letters.leave.Statement.{statement}
-use Rattle.store.proofs.letters.leave.Tie as tie
+use Rattle.joining.proofs.leave.Statement.{statement}
+use Rattle.joining.proofs.leave.Tie as tie
 
 returns : tie.Need-returns
 returns c =

@@ -1,13 +1,13 @@
--- `store::letters::move_right` moves the letters by one place. The loop's invariant: all but the first k of them have moved. Assumes nothing.
+-- `joining::move_right` moves the letters by one place. The loop's invariant: all but the first k of them have moved. Assumes nothing.
 use Prim.Native.Nat.{_+_, _-_, _≤_}
 use native.Mathlib.Nat.{add-zero, sub-zero, sub-self}
 use native.Mathlib.Omega.{arith}
 use mathlib.Core.Path.{_≡_}
 use borrow.Author.Needs.{needs}
 use lib.ListN.{length, length-set}
 use Rattle.store.proofs.Parts.{movedRight, right-step}
-use Rattle.store.proofs.letters.move_right.Statement.{statement}
-use Rattle.store.proofs.letters.move_right.Tie as tie
+use Rattle.joining.proofs.move_right.Statement.{statement}
+use Rattle.joining.proofs.move_right.Tie as tie
 
 abbrev Inv-loop : tie.InvT-loop
 Inv-loop b₀ base n k₀ b k = (k ≤ n) × (length b ≡ length b₀) × (b ≡ movedRight b₀ base n k)

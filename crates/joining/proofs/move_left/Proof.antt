@@ -1,12 +1,12 @@
--- `store::letters::move_left` moves the letters by one place. The loop's invariant: the first k of them have moved. Assumes nothing.
+-- `joining::move_left` moves the letters by one place. The loop's invariant: the first k of them have moved. Assumes nothing.
 use Prim.Native.Nat.{_-_, _≤_}
 use native.Mathlib.Omega.{arith}
 use mathlib.Core.Path.{_≡_, refl}
 use borrow.Author.Needs.{needs}
 use lib.ListN.{length, length-set}
 use Rattle.store.proofs.Parts.{movedLeft, left-step}
-use Rattle.store.proofs.letters.move_left.Statement.{statement}
-use Rattle.store.proofs.letters.move_left.Tie as tie
+use Rattle.joining.proofs.move_left.Statement.{statement}
+use Rattle.joining.proofs.move_left.Tie as tie
 
 abbrev Inv-loop : tie.InvT-loop
 Inv-loop b₀ base n k₀ b k = (k ≤ n) × (length b ≡ length b₀) × (b ≡ movedLeft b₀ base k)

@@ -1,14 +1,14 @@
--- `store::letters::join` makes room for a letter that comes first, and puts the letter down. Assumes nothing.
+-- `joining::join` makes room for a letter that comes first, and puts the letter down. Assumes nothing.
 use Prim.Native.Nat.{_+_}
 use native.Mathlib.Omega.{arith}
 use mathlib.Core.Path.{sym, ap, _∙_}
 use borrow.Author.Needs.{needs}
 use lib.ListN.{set}
 use Rattle.palindromes.specs.End.{atLeft, atRight}
 use Rattle.store.proofs.Parts.{sets-same}
 use Rattle.store.proofs.Ends.{joined}
-use Rattle.store.proofs.letters.join.Statement.{statement}
-use Rattle.store.proofs.letters.join.Tie as tie
+use Rattle.joining.proofs.join.Statement.{statement}
+use Rattle.joining.proofs.join.Tie as tie
 
 returns : tie.Need-returns
 returns c =
