@@ -11,7 +11,7 @@ use Rattle.walk.specs.declared.Walked.the-variants.{At}
 use Rattle.walk.specs.Replay.{letterTowards}
 use Rattle.walk.proofs.Stores.{header-fits}
 use Rattle.transitions.proofs.Rows.{used-fits}
-use Rattle.growth.specs.Steps.{Met, RowFor}
+use Rattle.growth.specs.Steps.{Met, RowFor, StoodIs}
 use Rattle.growth.proofs.Growing.{letter-read, longest-met, found-new, found-old, found-none}
 use Rattle.growth.proofs.find.Statement.{statement}
 use Rattle.growth.proofs.find.Tie as tie
@@ -77,7 +77,9 @@ returns-2 c =
     let m = at-met (c .before) in
     let d = at-read m in
     let s = from-read d in
-    rw edge (found-old (s .pre .0) (endOf (s .args .side)) (s .args .c) (d .read-as .result) (same d) (row m) (is-letter d) (met-row m) λ z. c .if1 .left (edge ∙ z))
+    let e = endOf (s .args .side) in
+    subst (λ (q : ℕ). StoodIs (s .args .b .now) e (s .args .c) q) (sym edge)
+    (found-old (s .pre .0) e (s .args .c) (d .read-as .result) (same d) (row m) (is-letter d) (met-row m) λ z. c .if1 .left (edge ∙ z))
 
 returns-3 : tie.Need-returns-3
 returns-3 c =

@@ -16,9 +16,16 @@ Inv-loop b₀ capacity k₀ b k = (k ≤ capacity) × (length b ≡ length b₀)
 abbrev μ-loop : tie.MeasureT-loop
 μ-loop b₀ capacity k₀ b k = capacity - k
 
+-- the loop's test from behind the first write of a turn, and that place from behind the second
+abbrev at-loop : tie.After-put-order Inv-loop μ-loop → tie.At-loop Inv-loop μ-loop
+at-loop c = c .before .before .before
+
+abbrev at-order : tie.After-put-rank Inv-loop μ-loop → tie.After-put-order Inv-loop μ-loop
+at-order c = c .before .before .before .before
+
 loop-again : tie.Need-loop-again Inv-loop μ-loop
 loop-again c =
-    let l = c .before .before .before .before .before .before .before .before .before in
+    let l = at-loop (at-order (c .before .before)) in
     (search needs, search needs, cc (order-more (l .before .before .args .b .now) (l .loop .k)))
 
 returns : tie.Need-returns Inv-loop μ-loop

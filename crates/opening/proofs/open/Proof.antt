@@ -7,17 +7,24 @@ use Rattle.transitions.specs.Opening.{openingWrites, opened}
 use Rattle.opening.proofs.open.Statement.{statement}
 use Rattle.opening.proofs.open.Tie as tie
 
+-- the entry from behind the clearing, and that place from behind the header
+abbrev entry : tie.After-clear → tie.Start
+entry c = c .before .before .before
+
+abbrev at-clear : tie.After-head → tie.After-clear
+at-clear c = c .before .before .before .before
+
 clear-requires : tie.Need-clear-requires
 unfolding storeSize
 clear-requires c κs = omega (arith, c .before .before .pre)
 
 head-requires : tie.Need-head-requires
 unfolding storeSize
-head-requires c κs = omega (arith, c .before .before .before .before .before .before .pre)
+head-requires c κs = let cleared = c .before .before .before in omega (arith, entry cleared .pre)
 
 number-requires : tie.Need-number-requires
 unfolding storeSize
-number-requires c κs = omega (arith, c .before .before .before .before .before .before .before .before .before .before .pre)
+number-requires c κs = let headed = c .before .before .before in omega (arith, entry (at-clear headed) .pre)
 
 returns : tie.Need-returns
 unfolding writes openingWrites opened
