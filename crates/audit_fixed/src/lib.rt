@@ -5,7 +5,6 @@ ghost use mathlib.Core.Bool.{true};
 ghost use Prim.Native.Nat.{_+_, _<_};
 ghost use Rattle.palindromes.specs.Word.{allLetters};
 ghost use Rattle.store.specs.Layout.{capacityIn, lettersIn};
-ghost use Rattle.store.specs.Lengths.{Stored};
 ghost use Rattle.store.specs.Good.{Sized, OrderIs, RankIs};
 ghost use Rattle.audit_fixed.specs.Decides.{Decides};
 ghost use Rattle.audit_fixed.specs.Parts.{HeaderRight, FreePlaces, RootRight, RootsRight, OrderRight};
@@ -74,7 +73,7 @@ pub fn places_free(b: &[u8]) -> bool
 // string for their link and their inner row, and no letter.
 pub fn root_right(b: &[u8], r: usize, length: i32) -> bool
     requires { ⌜ Sized (now b) ⌝ }
-    requires { ⌜ (r < 2) × Stored length ⌝ }
+    requires { ⌜ r < 2 ⌝ }
     ensures { λ v. ⌜ Decides v (RootRight (now (b .entry)) r length) ⌝ }
 {
     if rows::length_of(b, r) != length {
