@@ -1,5 +1,5 @@
 -- A store that passes every test is good: the rows met are the rows in use, so the table covers the letters, and no edge of it leads anywhere else.
--- Rests on `covers-shows` of eertree; that a good store passes every test is in `Parts` of audit_fixed, `Letter` of audit_tour and `Rows` of audit_rows.
+-- Rests on `covers-shows` of eertree; that a good store passes every test is in `Parts` of audit_fixed, `Order` of audit_order, `Letter` of audit_tour and `Rows` of audit_rows.
 use Prim.Native.Nat.{ℕ, _+_, _-_, _≤_, _<_}
 use native.Mathlib.Omega.{arith}
 use mathlib.Core.Path.{_≡_, _∙_, subst, fun-ext}
@@ -13,7 +13,8 @@ use Rattle.eertree.proofs.Covers.{covers-shows}
 use Rattle.store.specs.Layout.{capacityIn, edgeIn, usedIn, lettersIn}
 use Rattle.store.specs.Good.{ruleOf, tableIn, nodeIn, EndIs, RankIs, Good}
 use Rattle.store.proofs.Sizes.{used-below}
-use Rattle.audit_fixed.specs.Parts.{HeaderRight, FreePlaces, RootsRight, OrderRight}
+use Rattle.audit_fixed.specs.Parts.{HeaderRight, FreePlaces, RootsRight}
+use Rattle.audit_order.specs.Order.{OrderRight}
 use Rattle.audit_tour.specs.Tour.{metIn, Toured}
 use Rattle.audit_rows.specs.Rows.{EdgeRight, nowhere, there, RowsRight, EndsRight}
 use Rattle.audit_tour.specs.declared.Tour.{Tour}

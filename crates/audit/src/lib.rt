@@ -24,7 +24,7 @@ pub fn is_good(b: &[u8]) -> bool
     if !audit_fixed::roots_right(b) {
         return false;
     }
-    if !audit_fixed::order_right(b) {
+    if !audit_order::order_right(b) {
         return false;
     }
     let mut marks = [0u8; 1026];

@@ -1,13 +1,11 @@
--- A good store has the roots and the order that are tested. Rests on the laws of a good store (`Rows` of transitions).
-use Prim.Native.Nat.{_+_}
-use native.Mathlib.Omega.{arith}
+-- A good store has the roots that are tested. Rests on the laws of a good store (`Rows` of transitions).
 use mathlib.Core.Path.{ap, _∙_}
 use Rattle.palindromes.specs.Word.{Word}
 use Rattle.palindromes.specs.Node.{lengthOf}
 use Rattle.eertree.proofs.Rows.{link-zero, link-one, inner-zero, inner-one}
 use Rattle.store.specs.Good.{Good}
 use Rattle.transitions.proofs.Rows.{covers}
-use Rattle.audit_fixed.specs.Parts.{RootsRight, OrderRight}
+use Rattle.audit_fixed.specs.Parts.{RootsRight}
 
 module _ {b : Word} (g : Good b) where
   -- its roots are as fixed
@@ -18,7 +16,3 @@ module _ {b : Word} (g : Good b) where
         imaginary = record { length-is = covers g .length-is 0 (g .table .row-zero .0) ∙ ap lengthOf (g .table .row-zero .1); link = link-zero (covers g); inner = inner-zero (covers g); outer = g .root-letters .0 };
         empty = record { length-is = covers g .length-is 1 (g .table .row-one .0) ∙ ap lengthOf (g .table .row-one .1); link = link-one (covers g); inner = inner-one (covers g); outer = g .root-letters .1 };
       }
-
-  -- and its order is right at each place
-  pub good-order : OrderRight b
-  good-order i h = record { order = g .order i h; rank = g .rank (i + 2) (omega arith) (omega arith) }

@@ -5,7 +5,7 @@ use lib.ListN.{getD}
 use lib.IntN.{ℤ, pos, negsuc}
 use Rattle.palindromes.specs.Word.{Word}
 use Rattle.store.specs.Layout.{capacityIn, sizeIn, readingIn, lengthIn, linkIn, innerIn, outerIn, lettersAt}
-use Rattle.store.specs.Good.{Sized, OrderIs, RankIs}
+use Rattle.store.specs.Good.{Sized}
 
 -- the sizes, and the reading of a plain record
 pub record HeaderRight (b : Word) : Type 0 where
@@ -27,11 +27,3 @@ pub record RootRight (b : Word) (r : ℕ) (length : ℤ) : Type 0 where
 pub record RootsRight (b : Word) : Type 0 where
   pub imaginary : RootRight b 0 (negsuc 0)
   pub empty : RootRight b 1 (pos 0)
-
--- place i of the order, and the rank of row i + 2
-pub record PlaceRight (b : Word) (i : ℕ) : Type 0 where
-  pub order : OrderIs b i
-  pub rank : RankIs b (i + 2)
-
-abbrev pub OrderRight : Word → Type 0
-OrderRight b = (i : ℕ) → i < capacityIn b → PlaceRight b i

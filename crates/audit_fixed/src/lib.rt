@@ -1,14 +1,13 @@
-// The parts of a good store that say nothing of its palindromes: the sizes, the letters, the roots
-// and the order of the rows.
+// The parts of a good store that say nothing of its palindromes: the sizes, the letters, the places
+// after them and the roots.
 ghost use mathlib.Core.Path.{_≡_};
 ghost use mathlib.Core.Bool.{true};
-ghost use Prim.Native.Nat.{_+_, _<_};
+ghost use Prim.Native.Nat.{_<_};
 ghost use Rattle.palindromes.specs.Word.{allLetters};
-ghost use Rattle.store.specs.Layout.{capacityIn, lettersIn};
-ghost use Rattle.store.specs.Lengths.{Stored};
-ghost use Rattle.store.specs.Good.{Sized, OrderIs, RankIs};
+ghost use Rattle.store.specs.Layout.{lettersIn};
+ghost use Rattle.store.specs.Good.{Sized};
 ghost use Rattle.audit_fixed.specs.Decides.{Decides};
-ghost use Rattle.audit_fixed.specs.Parts.{HeaderRight, FreePlaces, RootRight, RootsRight, OrderRight};
+ghost use Rattle.audit_fixed.specs.Parts.{HeaderRight, FreePlaces, RootRight, RootsRight};
 use alphabet::all_letters;
 use store::header;
 use store::rows;
@@ -74,7 +73,7 @@ pub fn places_free(b: &[u8]) -> bool
 // string for their link and their inner row, and no letter.
 pub fn root_right(b: &[u8], r: usize, length: i32) -> bool
     requires { ⌜ Sized (now b) ⌝ }
-    requires { ⌜ (r < 2) × Stored length ⌝ }
+    requires { ⌜ r < 2 ⌝ }
     ensures { λ v. ⌜ Decides v (RootRight (now (b .entry)) r length) ⌝ }
 {
     if rows::length_of(b, r) != length {
@@ -102,60 +101,6 @@ pub fn roots_right(b: &[u8]) -> bool
     }
     if !root_right(b, Row::EMPTY, Row::EMPTY_LENGTH) {
         return false;
-    }
-    true
-}
-
-// Whether place i of the order holds a row from 2 on whose rank is i.
-pub fn order_holds(b: &[u8], i: usize) -> bool
-    requires { ⌜ Sized (now b) ⌝ }
-    requires { ⌜ i < capacityIn (now b) ⌝ }
-    ensures { λ v. ⌜ Decides v (OrderIs (now (b .entry)) i) ⌝ }
-{
-    let row = rows::order_of(b, i);
-    if row < 2 {
-        return false;
-    }
-    if header::capacity(b) + 2 <= row {
-        return false;
-    }
-    if rows::rank_of(b, row) != i {
-        return false;
-    }
-    true
-}
-
-// Whether row r has a rank, and the place of that rank in the order holds r.
-pub fn rank_holds(b: &[u8], r: usize) -> bool
-    requires { ⌜ Sized (now b) ⌝ }
-    requires { ⌜ r < capacityIn (now b) + 2 ⌝ }
-    ensures { λ v. ⌜ Decides v (RankIs (now (b .entry)) r) ⌝ }
-{
-    let rank = rows::rank_of(b, r);
-    if header::capacity(b) <= rank {
-        return false;
-    }
-    if rows::order_of(b, rank) != r {
-        return false;
-    }
-    true
-}
-
-// Whether the order lists the rows from 2 on, each once, and the ranks are the places in it.
-pub fn order_right(b: &[u8]) -> bool
-    requires { ⌜ Sized (now b) ⌝ }
-    ensures { λ v. ⌜ Decides v (OrderRight (now (b .entry))) ⌝ }
-{
-    let capacity = header::capacity(b);
-    let mut i = 0;
-    while i < capacity {
-        if !order_holds(b, i) {
-            return false;
-        }
-        if !rank_holds(b, i + 2) {
-            return false;
-        }
-        i += 1;
     }
     true
 }

@@ -5,12 +5,14 @@ use mathlib.Core.Bool.{true}
 use Rattle.palindromes.specs.Word.{Word, allLetters}
 use Rattle.store.specs.Layout.{lettersIn}
 use Rattle.store.specs.Good.{Good}
-use Rattle.audit_fixed.specs.Parts.{HeaderRight, FreePlaces, RootsRight, OrderRight}
+use Rattle.audit_fixed.specs.Parts.{HeaderRight, FreePlaces, RootsRight}
+use Rattle.audit_order.specs.Order.{OrderRight}
 use Rattle.audit_tour.specs.Tour.{Toured}
 use Rattle.audit_rows.specs.Rows.{RowsRight}
 use Rattle.audit_tour.specs.declared.Visit.the-variants.{Next, Broken}
 use Rattle.audit_fixed.proofs.Decided.{holds, fails, carried}
-use Rattle.audit_fixed.proofs.Parts.{good-roots, good-order}
+use Rattle.audit_fixed.proofs.Parts.{good-roots}
+use Rattle.audit_order.proofs.Order.{good-order}
 use Rattle.audit_tour.proofs.Marks.{blank}
 use Rattle.audit_tour.proofs.Letter.{led}
 use Rattle.audit_rows.proofs.Rows.{good-rows, good-ends}

@@ -6,7 +6,8 @@ use mathlib.Core.Path.{_≡_, sym, ap, _∙_}
 use lib.ListN.{length}
 use lib.IntN.{ℤ}
 use mir.Syntax.{w32}
-use mir.Val.{ofZ, toZ}
+use mir.Val.{SFits, ofZ, toZ}
+use mir.Facts.{toZ-ofZ}
 use Rattle.palindromes.specs.Word.{Word}
 use Rattle.store.specs.Good.{Sized}
 use Rattle.store.specs.Lengths.{Stored}
@@ -20,8 +21,8 @@ root-fits : {b : Word} {r : ℕ} → Sized b → r < 2 → 24 * r + 24 ≤ lengt
 root-fits z l = omega (arith, header-fits z)
 
 -- lengths whose bits are equal are equal
-same : {x y : ℤ} → Stored x → Stored y → ofZ w32 x ≡ ofZ w32 y → x ≡ y
-same s t e = sym (kept s) ∙ ap (toZ w32) e ∙ kept t
+same : {x y : ℤ} → Stored x → SFits w32 y → ofZ w32 x ≡ ofZ w32 y → x ≡ y
+same s f e = sym (kept s) ∙ ap (toZ w32) e ∙ toZ-ofZ f
 
 -- the entry, from behind the first and from behind the last test
 abbrev from-first : tie.Else1 → tie.Start
@@ -39,7 +40,7 @@ returns-5 c =
     let link = inner .before .before in
     let first = link .before .before in
     record {
-      length-is = sym (first .before .length-of .ensures .0) ∙ same (first .before .length-of .ensures .1) (from-last c .pre .1 .1) (first .if1 .left);
+      length-is = sym (first .before .length-of .ensures .0) ∙ same (first .before .length-of .ensures .1) (from-last c .fits .length) (first .if1 .left);
       link = sym (link .before .link-of .ensures .0) ∙ link .if2 .left;
       inner = sym (inner .before .inner-of .ensures .0) ∙ inner .if3 .left;
       outer = sym (c .before .outer-of .ensures .0) ∙ c .if4 .left;
@@ -49,12 +50,12 @@ pub root-right-spec : {M : Type 1} → statement M
 root-right-spec =
     tie.close
     (tie.spec
-    (λ c κs. root-fits (c .before .pre .0) (c .before .pre .1 .0))
+    (λ c κs. root-fits (c .before .pre .0) (c .before .pre .1))
     returns
-    (λ c κs. root-fits (from-first c .pre .0) (from-first c .pre .1 .0))
+    (λ c κs. root-fits (from-first c .pre .0) (from-first c .pre .1))
     (λ c. search needs)
-    (λ c κs. root-fits (from-first (c .before .before) .pre .0) (from-first (c .before .before) .pre .1 .0))
+    (λ c κs. root-fits (from-first (c .before .before) .pre .0) (from-first (c .before .before) .pre .1))
     (λ c. search needs)
-    (λ c κs. root-fits (from-first (c .before .before .before .before) .pre .0) (from-first (c .before .before .before .before) .pre .1 .0))
+    (λ c κs. root-fits (from-first (c .before .before .before .before) .pre .0) (from-first (c .before .before .before .before) .pre .1))
     (λ c. search needs)
     returns-5)

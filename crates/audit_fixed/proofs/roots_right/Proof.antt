@@ -1,19 +1,11 @@
 -- `audit_fixed::roots_right` decides whether the rows of both roots are as fixed. Assumes nothing.
 use native.Mathlib.Omega.{arith}
-use mathlib.Core.Path.{refl}
 use Rattle.audit_fixed.proofs.Decided.{holds, fails}
 use Rattle.audit_fixed.proofs.roots_right.Statement.{statement}
 use Rattle.audit_fixed.proofs.roots_right.Tie as tie
 
--- past the first test the imaginary string's row is right
-imaginary-requires : tie.Need-root-right-requires
-imaginary-requires c κs = (c .before .pre, (omega arith, record { number = 0; small = omega arith; is = refl }))
-
 returns : tie.Need-returns
 returns c a = fails _ (c .before .root-right .result) (c .before .root-right .ensures) (c .if1 .taken) (a .imaginary)
-
-empty-requires : tie.Need-root-right-requires-2
-empty-requires c κs = (c .before .before .before .pre, (omega arith, record { number = 1; small = omega arith; is = refl }))
 
 returns-2 : tie.Need-returns-2
 returns-2 c a = fails _ (c .before .root-right2 .result) (c .before .root-right2 .ensures) (c .if2 .taken) (a .empty)
@@ -27,4 +19,4 @@ returns-3 c =
     }
 
 pub roots-right-spec : {M : Type 1} → statement M
-roots-right-spec = tie.close (tie.spec imaginary-requires returns empty-requires returns-2 returns-3)
+roots-right-spec = tie.close (tie.spec (λ c κs. (c .before .pre, omega arith)) returns (λ c κs. (c .before .before .before .pre, omega arith)) returns-2 returns-3)

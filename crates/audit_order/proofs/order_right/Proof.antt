@@ -1,4 +1,4 @@
--- `audit_fixed::order_right` decides whether the order is right at each place. The loop's invariant (`Passed`): it is at those passed. Assumes nothing.
+-- `audit_order::order_right` decides whether the order is right at each place. The loop's invariant (`Passed`): it is at those passed. Assumes nothing.
 use Prim.Native.Nat.{ℕ, _-_, _<_}
 use native.Mathlib.Omega.{arith}
 use borrow.Author.Count.{below-more}
@@ -7,10 +7,10 @@ use mathlib.Core.Path.{_≡_}
 use Rattle.palindromes.specs.Word.{Word}
 use Rattle.store.specs.Layout.{capacityIn}
 use Rattle.walk.proofs.Stores.{header-fits}
-use Rattle.audit_fixed.specs.Parts.{PlaceRight}
+use Rattle.audit_order.specs.Order.{PlaceRight}
 use Rattle.audit_fixed.proofs.Decided.{holds, fails}
-use Rattle.audit_fixed.proofs.order_right.Statement.{statement}
-use Rattle.audit_fixed.proofs.order_right.Tie as tie
+use Rattle.audit_order.proofs.order_right.Statement.{statement}
+use Rattle.audit_order.proofs.order_right.Tie as tie
 
 record Passed (b : Word) (capacity i : ℕ) : Type 0 where
   capacity-is : capacity ≡ capacityIn b

@@ -1,11 +1,11 @@
--- `audit_fixed::order_holds` decides whether a place of the order holds a row whose rank it is: each of its tests is one part of what is asked. Assumes nothing.
+-- `audit_order::order_holds` decides whether a place of the order holds a row whose rank it is: each of its tests is one part of what is asked. Assumes nothing.
 use Prim.Native.Nat.{_+_}
 use native.Mathlib.Omega.{arith}
 use borrow.Author.Needs.{needs}
 use Rattle.walk.proofs.Stores.{header-fits}
 use Rattle.transitions.proofs.Rows.{row-fits}
-use Rattle.audit_fixed.proofs.order_holds.Statement.{statement}
-use Rattle.audit_fixed.proofs.order_holds.Tie as tie
+use Rattle.audit_order.proofs.order_holds.Statement.{statement}
+use Rattle.audit_order.proofs.order_holds.Tie as tie
 
 rank-of-requires : tie.Need-rank-of-requires
 rank-of-requires c κs =

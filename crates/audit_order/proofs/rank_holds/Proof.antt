@@ -1,11 +1,11 @@
--- `audit_fixed::rank_holds` decides whether a row has a rank whose place in the order holds it: each of its tests is one part of what is asked. Assumes nothing.
+-- `audit_order::rank_holds` decides whether a row has a rank whose place in the order holds it: each of its tests is one part of what is asked. Assumes nothing.
 use Prim.Native.Nat.{_+_}
 use native.Mathlib.Omega.{arith}
 use borrow.Author.Needs.{needs}
 use Rattle.walk.proofs.Stores.{header-fits}
 use Rattle.transitions.proofs.Rows.{row-fits}
-use Rattle.audit_fixed.proofs.rank_holds.Statement.{statement}
-use Rattle.audit_fixed.proofs.rank_holds.Tie as tie
+use Rattle.audit_order.proofs.rank_holds.Statement.{statement}
+use Rattle.audit_order.proofs.rank_holds.Tie as tie
 
 order-of-requires : tie.Need-order-of-requires
 order-of-requires c κs =

@@ -1,0 +1,2 @@
+-- laws of the order of the rows
+pub mod Order
