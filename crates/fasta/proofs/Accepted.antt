@@ -13,8 +13,8 @@ use Rattle.palindromes.specs.Word.{Word, isLetter, allLetters}
 use Rattle.palindromes.specs.Bed.{isIdentifierByte, allIdentifierBytes, isIdentifier}
 use Rattle.palindromes.specs.Fasta.{refused, accepted, identifierLength, endsIdentifier, goodFirstLine, afterFirstLine, Kind, secondHeader, lineEnd, beforeLf, letter, other, kindOf, Body, fault, letters, withLetter, readByte, readLines, withIdentifier, readFasta}
 use Rattle.palindromes.proofs.Tests.{both-true}
-use Rattle.fasta.proofs.LaterLines.{letter-kind}
-use Rattle.fasta.proofs.Writing.{no-fault}
+use Rattle.fasta_later_lines.proofs.LaterLines.{letter-kind}
+use Rattle.fasta_later_lines.proofs.Writing.{no-fault}
 
 -- ---- the identifier
 

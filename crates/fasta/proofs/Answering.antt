@@ -11,10 +11,10 @@ use lib.Seq.{sets}
 use borrow.Author.Tests.{lt-ltb, le-ltb}
 use Rattle.palindromes.specs.Word.{Word}
 use Rattle.palindromes.specs.Fasta.{Fasta, refused, accepted, identifierLength, goodFirstLine, afterFirstLine, Body, fault, letters, readLines, withIdentifier, readFasta}
-use Rattle.fasta.specs.Reader.{readingOf, writtenTo}
-use Rattle.fasta.specs.Passes.{tallyAfter, lettersOf, Answers}
+use Rattle.fasta.specs.Reader.{readingOf, writtenTo, Answers}
+use Rattle.fasta_later_lines.specs.Passes.{tallyAfter, lettersOf}
 use Rattle.fasta.specs.declared.Reading.the-variants.{Accepted, Refused}
-use Rattle.fasta.specs.declared.later_lines.Tally.the-variants.{Letters, Fault}
+use Rattle.fasta_later_lines.specs.declared.Tally.the-variants.{Letters, Fault}
 
 -- ---- what the text says
 

@@ -1,5 +1,6 @@
 -- DEFINITIONS. What the FASTA reader answers and what it writes, from what `readFasta` says of the text. Nothing here is proved.
 use Prim.Native.Nat.{ℕ}
+use mathlib.Core.Path.{_≡_}
 use mathlib.Core.Bool.{cond}
 use lib.Dec.{ltb}
 use lib.ListN.{length}
@@ -18,3 +19,7 @@ readingOf (accepted n w) room = cond (ltb room (length w)) (Refused 9) (Accepted
 unfoldable pub writtenTo : Fasta → Word → Word
 writtenTo (refused n) out = out
 writtenTo (accepted n w) out = cond (ltb (length out) (length w)) out (sets out 0 w)
+
+-- the answer and the buffer after it are those of a text that says f, for the buffer before
+abbrev pub Answers : Fasta → (before : Word) → Reading → (after : Word) → Type 0
+Answers f before r after = (r ≡ readingOf f (length before)) × (after ≡ writtenTo f before)

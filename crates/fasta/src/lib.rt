@@ -1,19 +1,15 @@
 // The FASTA reader: it judges a whole text, and only then puts the letters into the lent buffer.
-mod first_line;
-mod later_lines;
-
 ghost use mathlib.Core.Path.{_≡_};
 ghost use mathlib.Core.Bool.{true};
 ghost use lib.ListN.{length, drop};
 ghost use Rattle.palindromes.specs.Fasta.{afterFirstLine, readLines, withIdentifier, readFasta};
-ghost use Rattle.fasta.specs.Reader.{readingOf, writtenTo};
-ghost use Rattle.fasta.specs.Passes.{Answers};
-use first_line::good_first_line;
-use first_line::identifier_length;
-use first_line::later_lines_at;
-use later_lines::Tally;
-use later_lines::count_letters;
-use later_lines::write_letters;
+ghost use Rattle.fasta.specs.Reader.{readingOf, writtenTo, Answers};
+use fasta_first_line::good_first_line;
+use fasta_first_line::identifier_length;
+use fasta_first_line::later_lines_at;
+use fasta_later_lines::Tally;
+use fasta_later_lines::count_letters;
+use fasta_later_lines::write_letters;
 
 // What the reader answers: the identifier's length and the number of letters, or a refusal.
 pub enum Reading {

@@ -8,7 +8,7 @@ use denote.Ref.{now}
 use lib.ListN.{length, drop}
 use Rattle.palindromes.specs.Word.{Word}
 use Rattle.palindromes.specs.Fasta.{accepted, afterFirstLine, Body, letters, readLines, withIdentifier}
-use Rattle.fasta.specs.Passes.{lettersOf}
+use Rattle.fasta_later_lines.specs.Passes.{lettersOf}
 use Rattle.fasta.proofs.Answering.{fault-found, letters-found, good-lines, answers-refusal, answers-short, answers-letters}
 use Rattle.fasta.proofs.read_later_lines.Statement.{statement}
 use Rattle.fasta.proofs.read_later_lines.Tie as tie

@@ -1,0 +1,3 @@
+pub mod LaterLines
+pub mod Counting
+pub mod Writing
