@@ -1,7 +1,7 @@
 // The host's call that finds a piece. It tests its store and its piece, asks nothing of the caller, and
 // changes no byte.
 ghost use Rattle.palindromes.specs.Refusal.{ask, find};
-ghost use Rattle.outcome.specs.Promise.{nothing, Promise};
+ghost use Rattle.outcome.specs.Promise.{nothing, Asked};
 ghost use Rattle.outcome.specs.Verdict.{Verdict};
 use alphabet::all_letters;
 use outcome::answers::Found;
@@ -26,7 +26,7 @@ fn judge_find(store: &[u8], piece: &[u8]) -> u64
 
 // Whether a piece is a repeat of the record, and its row.
 pub fn find_piece(store: &[u8], piece: &[u8]) -> u64
-    ensures { λ r. ⌜ Promise (ask (find (now (piece .entry)))) (now (store .entry)) nothing r (now (store .entry)) nothing ⌝ }
+    ensures { λ r. ⌜ Asked (find (now (piece .entry))) (now (store .entry)) nothing r nothing ⌝ }
 {
     let number = judge_find(store, piece);
     if number != 0 {

@@ -2,9 +2,9 @@
 // side named; its promise holds for all bytes and all numbers.
 ghost use Rattle.palindromes.specs.End.{atLeft, atRight};
 ghost use mathlib.Core.List.{[]};
-ghost use Rattle.palindromes.specs.Refusal.{ask, add, remove, theLength, theCount, theLongest, theLongestAt, theLetter, theRow, spell, find, list};
+ghost use Rattle.palindromes.specs.Refusal.{add, remove, theLength, theCount, theLongest, theLongestAt, theLetter, theRow, spell, find, list};
 ghost use Rattle.fasta_call.specs.Answer.{FastaPromise};
-ghost use Rattle.outcome.specs.Promise.{lending, nothing, Promise, OpeningPromise, FreeRow};
+ghost use Rattle.outcome.specs.Promise.{lending, nothing, Promise, OpeningPromise, FreeRow, Asked};
 use store::letters::Side;
 
 // Opens an empty record of the given capacity.
@@ -52,7 +52,7 @@ pub extern "C" fn mirror_remove_right(store: &mut [u8]) -> u64
 // How many letters stand.
 #[no_mangle]
 pub extern "C" fn mirror_length(store: &[u8]) -> u64
-    ensures { λ r. ⌜ Promise (ask theLength) (now (store .entry)) nothing r (now (store .entry)) nothing ⌝ }
+    ensures { λ r. ⌜ Asked theLength (now (store .entry)) nothing r nothing ⌝ }
 {
     record_calls::length(store)
 }
@@ -60,7 +60,7 @@ pub extern "C" fn mirror_length(store: &[u8]) -> u64
 // How many distinct repeats stand.
 #[no_mangle]
 pub extern "C" fn mirror_count(store: &[u8]) -> u64
-    ensures { λ r. ⌜ Promise (ask theCount) (now (store .entry)) nothing r (now (store .entry)) nothing ⌝ }
+    ensures { λ r. ⌜ Asked theCount (now (store .entry)) nothing r nothing ⌝ }
 {
     record_calls::count(store)
 }
@@ -68,7 +68,7 @@ pub extern "C" fn mirror_count(store: &[u8]) -> u64
 // The longest repeat's length and leftmost place.
 #[no_mangle]
 pub extern "C" fn mirror_longest(store: &[u8]) -> u64
-    ensures { λ r. ⌜ Promise (ask theLongest) (now (store .entry)) nothing r (now (store .entry)) nothing ⌝ }
+    ensures { λ r. ⌜ Asked theLongest (now (store .entry)) nothing r nothing ⌝ }
 {
     longest_calls::longest_repeat(store)
 }
@@ -76,7 +76,7 @@ pub extern "C" fn mirror_longest(store: &[u8]) -> u64
 // The longest repeat at the left end: its row, and whether it stands once only.
 #[no_mangle]
 pub extern "C" fn mirror_longest_left(store: &[u8]) -> u64
-    ensures { λ r. ⌜ Promise (ask (theLongestAt atLeft)) (now (store .entry)) nothing r (now (store .entry)) nothing ⌝ }
+    ensures { λ r. ⌜ Asked (theLongestAt atLeft) (now (store .entry)) nothing r nothing ⌝ }
 {
     longest_calls::longest_at(store, Side::Left)
 }
@@ -84,7 +84,7 @@ pub extern "C" fn mirror_longest_left(store: &[u8]) -> u64
 // The longest repeat at the right end: its row, and whether it stands once only.
 #[no_mangle]
 pub extern "C" fn mirror_longest_right(store: &[u8]) -> u64
-    ensures { λ r. ⌜ Promise (ask (theLongestAt atRight)) (now (store .entry)) nothing r (now (store .entry)) nothing ⌝ }
+    ensures { λ r. ⌜ Asked (theLongestAt atRight) (now (store .entry)) nothing r nothing ⌝ }
 {
     longest_calls::longest_at(store, Side::Right)
 }
@@ -92,7 +92,7 @@ pub extern "C" fn mirror_longest_right(store: &[u8]) -> u64
 // The letter at a place.
 #[no_mangle]
 pub extern "C" fn mirror_letter(store: &[u8], place: u64) -> u64
-    ensures { λ r. ⌜ Promise (ask (theLetter place)) (now (store .entry)) nothing r (now (store .entry)) nothing ⌝ }
+    ensures { λ r. ⌜ Asked (theLetter place) (now (store .entry)) nothing r nothing ⌝ }
 {
     record_calls::letter(store, place)
 }
@@ -100,7 +100,7 @@ pub extern "C" fn mirror_letter(store: &[u8], place: u64) -> u64
 // A row's length, link and inner row.
 #[no_mangle]
 pub extern "C" fn mirror_row(store: &[u8], row: u64) -> u64
-    ensures { λ r. ⌜ Promise (ask (theRow row)) (now (store .entry)) nothing r (now (store .entry)) nothing ⌝ }
+    ensures { λ r. ⌜ Asked (theRow row) (now (store .entry)) nothing r nothing ⌝ }
 {
     row_call::row(store, row)
 }
@@ -108,7 +108,7 @@ pub extern "C" fn mirror_row(store: &[u8], row: u64) -> u64
 // Writes a row's repeat.
 #[no_mangle]
 pub extern "C" fn mirror_spell(store: &[u8], row: u64, out: &mut [u8]) -> u64
-    ensures { λ r. ⌜ Promise (ask (spell row)) (now (store .entry)) (lending [] (now (out .entry))) r (now (store .entry)) (lending [] (now (out .exit))) ⌝ }
+    ensures { λ r. ⌜ Asked (spell row) (now (store .entry)) (lending [] (now (out .entry))) r (lending [] (now (out .exit))) ⌝ }
 {
     spell_call::spell_row(store, row, out)
 }
@@ -116,7 +116,7 @@ pub extern "C" fn mirror_spell(store: &[u8], row: u64, out: &mut [u8]) -> u64
 // Whether a piece is a repeat of the record, and its row.
 #[no_mangle]
 pub extern "C" fn mirror_find(store: &[u8], piece: &[u8]) -> u64
-    ensures { λ r. ⌜ Promise (ask (find (now (piece .entry)))) (now (store .entry)) nothing r (now (store .entry)) nothing ⌝ }
+    ensures { λ r. ⌜ Asked (find (now (piece .entry))) (now (store .entry)) nothing r nothing ⌝ }
 {
     find_call::find_piece(store, piece)
 }
@@ -129,7 +129,7 @@ pub extern "C" fn mirror_list(
     scratch: &mut [u8],
     out: &mut [u8],
 ) -> u64
-    ensures { λ r. ⌜ Promise (ask (list (now (identifier .entry)))) (now (store .entry)) (lending (now (scratch .entry)) (now (out .entry))) r (now (store .entry)) (lending (now (scratch .exit)) (now (out .exit))) ⌝ }
+    ensures { λ r. ⌜ Asked (list (now (identifier .entry))) (now (store .entry)) (lending (now (scratch .entry)) (now (out .entry))) r (lending (now (scratch .exit)) (now (out .exit))) ⌝ }
 {
     list_call::list_repeats(store, identifier, scratch, out)
 }

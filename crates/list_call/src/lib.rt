@@ -1,7 +1,7 @@
 // The host's call that lists the repeats. It tests its store and its buffers, asks nothing of the caller,
 // and leaves every byte as the outcome of the call says.
 ghost use Rattle.palindromes.specs.Refusal.{ask, list};
-ghost use Rattle.outcome.specs.Promise.{lending, Promise};
+ghost use Rattle.outcome.specs.Promise.{lending, Asked};
 ghost use Rattle.outcome.specs.Verdict.{Verdict};
 use bed::is_identifier;
 use outcome::pack;
@@ -29,7 +29,7 @@ fn judge_list(store: &[u8], name: &[u8], scratch: &[u8], out: &[u8]) -> u64
 
 // Writes the list of the repeats, and answers how many bytes it has.
 pub fn list_repeats(store: &[u8], name: &[u8], scratch: &mut [u8], out: &mut [u8]) -> u64
-    ensures { λ r. ⌜ Promise (ask (list (now (name .entry)))) (now (store .entry)) (lending (now (scratch .entry)) (now (out .entry))) r (now (store .entry)) (lending (now (scratch .exit)) (now (out .exit))) ⌝ }
+    ensures { λ r. ⌜ Asked (list (now (name .entry))) (now (store .entry)) (lending (now (scratch .entry)) (now (out .entry))) r (lending (now (scratch .exit)) (now (out .exit))) ⌝ }
 {
     let number = judge_list(store, name, scratch, out);
     if number != 0 {

@@ -2,7 +2,7 @@
 // of the caller, and changes no byte.
 ghost use Rattle.palindromes.specs.Refusal.{ask, theLongest, theLongestAt};
 ghost use Rattle.store.specs.Side.{endOf};
-ghost use Rattle.outcome.specs.Promise.{nothing, Promise};
+ghost use Rattle.outcome.specs.Promise.{nothing, Asked};
 ghost use Rattle.outcome.specs.Verdict.{Verdict};
 use outcome::pack;
 use outcome::refuse;
@@ -26,7 +26,7 @@ fn judge_longest(store: &[u8]) -> u64
 
 // The longest repeat's length and leftmost place.
 pub fn longest_repeat(store: &[u8]) -> u64
-    ensures { λ r. ⌜ Promise (ask theLongest) (now (store .entry)) nothing r (now (store .entry)) nothing ⌝ }
+    ensures { λ r. ⌜ Asked theLongest (now (store .entry)) nothing r nothing ⌝ }
 {
     let number = judge_longest(store);
     if number != 0 {
@@ -38,7 +38,7 @@ pub fn longest_repeat(store: &[u8]) -> u64
 
 // The row of the longest repeat at a side, and whether it stands once only.
 pub fn longest_at(store: &[u8], side: Side) -> u64
-    ensures { λ r. ⌜ Promise (ask (theLongestAt (endOf side))) (now (store .entry)) nothing r (now (store .entry)) nothing ⌝ }
+    ensures { λ r. ⌜ Asked (theLongestAt (endOf side)) (now (store .entry)) nothing r nothing ⌝ }
 {
     let number = judge_longest(store);
     if number != 0 {

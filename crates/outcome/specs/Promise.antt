@@ -5,7 +5,7 @@ use mathlib.Core.Bool.{true}
 use mathlib.Core.List.{[]}
 use Rattle.palindromes.specs.Word.{Word}
 use Rattle.palindromes.specs.End.{End}
-use Rattle.palindromes.specs.Refusal.{Call, opening, add, refusal}
+use Rattle.palindromes.specs.Refusal.{Question, Call, opening, ask, add, refusal}
 use Rattle.store.specs.Good.{ruleOf, Good}
 use Rattle.transitions.specs.Rows.{freeRow, Free}
 use Rattle.transitions.specs.Addition.{bringsIn}
@@ -31,6 +31,10 @@ pub record Promise (call : Call) (b : Word) (l : Lent) (r : ℕ) (b′ : Word) (
   pub came : Outcome
   pub answers : Answers call b l came
   pub left : Left came r b′ l′
+
+-- the same for a question: the store stays
+abbrev pub Asked : Question → Word → Lent → ℕ → Lent → Type 0
+Asked q b l r l′ = Promise (ask q) b l r b l′
 
 -- the same for an opening, which asks nothing of the store's bytes
 pub record OpeningPromise (k : ℕ) (b : Word) (r : ℕ) (b′ : Word) : Type 0 where

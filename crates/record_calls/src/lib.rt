@@ -1,7 +1,7 @@
 // The host's questions about the record: its length, how many repeats stand, and the letter at a place.
 // Each tests its store and its argument, asks nothing of the caller, and changes no byte.
 ghost use Rattle.palindromes.specs.Refusal.{ask, theLength, theCount, theLetter};
-ghost use Rattle.outcome.specs.Promise.{nothing, Promise};
+ghost use Rattle.outcome.specs.Promise.{nothing, Asked};
 ghost use Rattle.outcome.specs.Verdict.{Verdict};
 use outcome::pack;
 use outcome::refuse;
@@ -9,7 +9,7 @@ use questions::record;
 
 // How many letters stand.
 pub fn length(store: &[u8]) -> u64
-    ensures { λ r. ⌜ Promise (ask theLength) (now (store .entry)) nothing r (now (store .entry)) nothing ⌝ }
+    ensures { λ r. ⌜ Asked theLength (now (store .entry)) nothing r nothing ⌝ }
 {
     if !audit::is_good(store) {
         return refuse(3);
@@ -19,7 +19,7 @@ pub fn length(store: &[u8]) -> u64
 
 // How many distinct repeats stand.
 pub fn count(store: &[u8]) -> u64
-    ensures { λ r. ⌜ Promise (ask theCount) (now (store .entry)) nothing r (now (store .entry)) nothing ⌝ }
+    ensures { λ r. ⌜ Asked theCount (now (store .entry)) nothing r nothing ⌝ }
 {
     if !audit::is_good(store) {
         return refuse(3);
@@ -42,7 +42,7 @@ fn judge_letter(store: &[u8], place: u64) -> u64
 
 // The letter at a place.
 pub fn letter(store: &[u8], place: u64) -> u64
-    ensures { λ r. ⌜ Promise (ask (theLetter place)) (now (store .entry)) nothing r (now (store .entry)) nothing ⌝ }
+    ensures { λ r. ⌜ Asked (theLetter place) (now (store .entry)) nothing r nothing ⌝ }
 {
     let number = judge_letter(store, place);
     if number != 0 {

@@ -5,7 +5,7 @@ ghost use Prim.Native.Nat.{_<_};
 ghost use Rattle.palindromes.specs.Refusal.{ask, theRow};
 ghost use Rattle.store.specs.Lengths.{Stored};
 ghost use Rattle.outcome.specs.Reply.{twosComplement};
-ghost use Rattle.outcome.specs.Promise.{nothing, Promise};
+ghost use Rattle.outcome.specs.Promise.{nothing, Asked};
 ghost use Rattle.outcome.specs.Verdict.{Verdict};
 use outcome::pack;
 use outcome::refuse;
@@ -38,7 +38,7 @@ fn two_bytes(length: i32) -> usize
 
 // A row's length, link and inner row.
 pub fn row(store: &[u8], row: u64) -> u64
-    ensures { λ r. ⌜ Promise (ask (theRow row)) (now (store .entry)) nothing r (now (store .entry)) nothing ⌝ }
+    ensures { λ r. ⌜ Asked (theRow row) (now (store .entry)) nothing r nothing ⌝ }
 {
     let number = judge_row(store, row);
     if number != 0 {

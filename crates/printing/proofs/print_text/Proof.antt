@@ -22,8 +22,9 @@ put-refusal-requires c κs =
 
 list-read-requires : tie.Need-list-read-requires
 list-read-requires c κs =
-    let s = c .before .before .before .before .before .before .before .before .before .before in
-    let read = c .before .before .before .before .before .before .read in
+    let from-read = c .before .before .before .before .before .before in
+    let s = from-read .before .before .before .before in
+    let read = from-read .read in
     let fields = c .before .before .before .reading2 .given .0 in
     let a = reading-accepted (s .args .text .now) (fields .0) (fields .1 .0) (sym (c .before .before .before .reading2 .given .1) ∙ read .ensures .0) in
     (was-read a _ _ (length-replicate {A = ℕ} 1024 0) (read .ensures .1), s .pre)
@@ -31,17 +32,19 @@ list-read-requires c κs =
 returns : tie.Need-returns
 unfolding printedFor
 returns c =
-    let s = c .before .before .before .before .before .before .before .before .before .before .before .before in
+    let from-read = c .before .before .before .before .before .before .before .before in
+    let s = from-read .before .before .before .before in
     let n = c .before .before .before .before .before .reading .given .0 .0 in
-    let r = reading-refused (s .args .text .now) n (sym (c .before .before .before .before .before .reading .given .1) ∙ c .before .before .before .before .before .before .before .before .read .ensures .0) in
+    let r = reading-refused (s .args .text .now) n (sym (c .before .before .before .before .before .reading .given .1) ∙ from-read .read .ensures .0) in
     let p = ap (λ (f : Fasta). printedFor f (s .args .text .now)) (sym r) in
     let e = c .before .before .put-refusal .ensures in
     (e .0 ∙ ap (λ (w : Word). sets (s .args .out .now) 0 w) p, e .1 ∙ ap length p)
 
 returns-2 : tie.Need-returns-2
 returns-2 c =
-    let s = c .before .before .before .before .before .before .before .before .before .before .before .before .before in
-    let read = c .before .before .before .before .before .before .before .before .before .read in
+    let from-read = c .before .before .before .before .before .before .before .before .before in
+    let s = from-read .before .before .before .before in
+    let read = from-read .read in
     let fields = c .before .before .before .before .before .before .reading2 .given .0 in
     let a = reading-accepted (s .args .text .now) (fields .0) (fields .1 .0) (sym (c .before .before .before .before .before .before .reading2 .given .1) ∙ read .ensures .0) in
     let p = list-printed a _ _ (length-replicate {A = ℕ} 1024 0) (read .ensures .1) in

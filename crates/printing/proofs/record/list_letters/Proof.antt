@@ -22,15 +22,17 @@ fill-requires c κs =
 
 list-requires : tie.Need-list-requires
 list-requires c κs =
-    let s = c .before .before .before .before .before .before .before .before .before .before .before .before .before in
-    let f = c .before .before .before .before .fill .ensures in
+    let from-fill = c .before .before .before .before in
+    let s = from-fill .before .before .before .before .before .before .before .before .before in
+    let f = from-fill .fill .ensures in
     let few = s .pre .1 .0 .1 in
     (f .good, (s .pre .0, (filled-marks f few, filled-lines f few (s .args .name .now) (s .pre .0) (s .pre .1 .1))))
 
 returns : tie.Need-returns
 returns c =
-    let s = c .before .before .before .before .before .before .before .before .before .before .before .before .before .before .before .before .before in
-    let f = c .before .before .before .before .before .before .before .before .fill .ensures in
+    let from-fill = c .before .before .before .before .before .before .before .before in
+    let s = from-fill .before .before .before .before .before .before .before .before .before in
+    let f = from-fill .fill .ensures in
     let l = c .before .before .before .list .ensures in
     let e = filled-listing f (s .pre .1 .0 .1) (s .args .name .now) in
     (l .1 .0 ∙ ap (λ (w : Word). sets (s .args .out .now) 0 w) e, l .1 .1 ∙ ap length e)

@@ -17,28 +17,32 @@ put-decimal-requires c κs =
 
 slice-write-out : tie.Need-slice-write-out
 slice-write-out c =
-    let s = c .before .before .before .before .before .before .before .before .before .before in
-    let w = c .before .before .before .before .before .before .copy .ensures in
+    let from-copy = c .before .before .before .before .before .before in
+    let s = from-copy .before .before .before .before in
+    let w = from-copy .copy .ensures in
     let d = c .before .before .put-decimal .ensures in
     line-fits (s .args .out .now) _ _ _ _ (s .args .number) (w .0) (w .1) (d .0) (d .1) (s .pre .0) (s .pre .1)
 
 add-result : tie.Need-add-result
 add-result c =
-    let s = c .before .before .before .before .before .before .before .before .before .before in
+    let from-copy = c .before .before .before .before .before .before in
+    let s = from-copy .before .before .before .before in
     let d = c .before .before .put-decimal .ensures in
-    omega (arith, c .before .before .before .before .before .before .copy .ensures .1, d .1, at-most-five (s .args .number) (s .pre .0))
+    omega (arith, from-copy .copy .ensures .1, d .1, at-most-five (s .args .number) (s .pre .0))
 
 same-length : tie.Need-same-length
 same-length c =
-    let s = c .before .before .before .before .before .before .before .before .before .before in
-    let w = c .before .before .before .before .before .before .copy .ensures in
+    let from-copy = c .before .before .before .before .before .before in
+    let s = from-copy .before .before .before .before in
+    let w = from-copy .copy .ensures in
     let d = c .before .before .put-decimal .ensures in
     simp length-set (line-length (s .args .out .now) _ _ _ _ (s .args .number) (w .0) (w .1) (d .0) (d .1))
 
 returns : tie.Need-returns
 returns c =
-    let s = c .before .before .before .before .before .before .before .before .before .before in
-    let w = c .before .before .before .before .before .before .copy .ensures in
+    let from-copy = c .before .before .before .before .before .before in
+    let s = from-copy .before .before .before .before in
+    let w = from-copy .copy .ensures in
     let d = c .before .before .put-decimal .ensures in (
       line-written (s .args .out .now) _ _ _ _ (s .args .number) (w .0) (w .1) (d .0) (d .1),
       line-end (s .args .out .now) _ _ _ _ (s .args .number) (w .0) (w .1) (d .0) (d .1),
