@@ -12,7 +12,7 @@ use Rattle.palindromes.specs.Palindrome.{SelfInverse, mirror, Symmetric}
 use Rattle.palindromes.specs.Place.{Suffix, Prefix, Stands}
 use Rattle.palindromes.specs.Record.{longestSuffix}
 use Rattle.palindromes.specs.End.{End, atLeft, atRight, added, removed, longestAt}
-use Rattle.palindromes.proofs.Words.{snoc-induction, prefix-refl, prefix-trans, prefix-length, prefix-of-snoc, suffix-refl, suffix-of-empty, stands-of-empty, stands-or-not, by-last, by-end, suffix-snoc-back, stands-trans, stands-snoc, stands-cons, stands-of-snoc, prefix-append, prefix-stands, suffix-stands, removed-added, removed-empty}
+use Rattle.palindromes.proofs.Words.{prefix-trans, suffix-of-empty, by-last, by-end, suffix-snoc-back, stands-trans, stands-snoc, stands-cons, stands-of-snoc, prefix-append, prefix-stands, suffix-stands, removed-added, removed-empty}
 use Rattle.palindromes.proofs.Mirror.{symmetric-suffix, stands-in-mirror, mirror-cons}
 use Rattle.palindromes.proofs.Longest.{longest-suffix, longest-prefix}
 
@@ -39,38 +39,6 @@ pub record FirstEnd (w p s : Word) : Type 0 where
   pub begins : Prefix p s
   pub ends : Suffix w p
   pub first : (q : Word) → Prefix q s → Stands w q → length p ≤ length q
-
--- whatever stands in a word has a first end there
-pub first-end : (w s : Word) → Stands w s → (p : Word) × FirstEnd w p s
-first-end w = snoc-induction (λ s. Stands w s → (p : Word) × FirstEnd w p s) base step
-  where
-    base : Stands w [] → (p : Word) × FirstEnd w p []
-    base h = ([], record { begins = prefix-refl; ends = rw (stands-of-empty h) suffix-refl; first = λ q a b. omega arith })
-
-    step : (s : Word) (c : ℕ) → (Stands w s → (p : Word) × FirstEnd w p s) → Stands w (s ++ (c ∷ [])) → (p : Word) × FirstEnd w p (s ++ (c ∷ []))
-    step s c ih h = ⊎-elim old new (stands-or-not w s)
-      where
-        old : Stands w s → (p : Word) × FirstEnd w p (s ++ (c ∷ []))
-        old k =
-            let r = ih k in
-            let f = r .1 in (
-              r .0,
-              record {
-                begins = prefix-trans (f .begins) (prefix-append s (c ∷ []));
-                ends = f .ends;
-                first = λ q a b. ⊎-elim (λ e. omega (arith, prefix-length (f .begins), simp length-append at (ap length e))) (λ d. f .first q d b) (prefix-of-snoc s c a);
-              },
-            )
-
-        new : (Stands w s → ⊥) → (p : Word) × FirstEnd w p (s ++ (c ∷ []))
-        new n = (
-          s ++ (c ∷ []),
-          record {
-            begins = prefix-refl;
-            ends = ⊎-elim (λ k. absurd (n k)) (λ k. k) (stands-of-snoc s c h);
-            first = λ q a b. ⊎-elim (λ e. omega (arith, ap length e)) (λ d. absurd (n (stands-trans b (prefix-stands d)))) (prefix-of-snoc s c a);
-          },
-        )
 
 module _ (σ : ℕ → ℕ) where
   -- ---- what comes in

@@ -123,18 +123,11 @@ suffix-of-snoc {w} s c p = ⊎-elim inl (λ r. inr (ends (r .0) (r .1) (r .2))) 
 
 -- ---- what begins a word
 
--- so is to begin a word
-pub prefix-refl : {s : Word} → Prefix s s
-prefix-refl {s} = record { after = []; whole = append-nil s }
-
 pub prefix-append : (p a : Word) → Prefix p (p ++ a)
 prefix-append p a = record { after = a; whole = refl }
 
 pub prefix-trans : {a b c : Word} → Prefix a b → Prefix b c → Prefix a c
 prefix-trans {a} p q = record { after = p .after ++ q .after; whole = cc (append-assoc a (p .after) (q .after)) }
-
-pub prefix-length : {a b : Word} → Prefix a b → length a ≤ length b
-prefix-length p = omega (arith, simp length-append at (ap length (p .whole)))
 
 -- of two prefixes of one word the shorter is a prefix of the longer
 pub prefix-shorter : {p q s : Word} → Prefix p s → Prefix q s → length p ≤ length q → Prefix p q
