@@ -1,14 +1,13 @@
--- The rows once the tour is over. What is asked of every letter is asked of the four; what is asked of a row goes by cases, and each case of the row's test decides it; and in a good store every row passes, and so do the header's numbers: a row in use
--- holds a palindrome of the letters, the tour met a row that holds it, and there is only one.
+-- The rows once the tour is over. What is asked of a row goes by cases, and each case of the row's test decides it; what is asked of its edges is asked of the four letters. In a good store every row
+-- passes, and so do the header's numbers: a row in use holds a palindrome of the letters, the tour met a row that holds it, and there is only one.
 -- Rests on the laws of a good store and of the rows met (`Toured`).
-use Prim.Native.Nat.{ℕ, _+_, _≤_, _<_}
+use Prim.Native.Nat.{ℕ}
 use native.Mathlib.Omega.{arith}
 use mathlib.Core.Path.{_≡_, refl, sym, _∙_, subst}
 use mathlib.Core.Bool.{Bool, true, false, _||_}
 use mathlib.Core.Logic.{⊎-elim}
 use lib.Dec.{eqb}
-use lib.ListN.{getD}
-use borrow.Author.Tests.{eqb-true, lt-ltb, le-ltb}
+use borrow.Author.Tests.{eqb-true}
 use Rattle.palindromes.specs.Word.{Word, isLetter, member}
 use Rattle.palindromes.specs.Record.{palindromes}
 use Rattle.palindromes.specs.End.{atLeft, atRight, longestAt}
@@ -17,15 +16,15 @@ use Rattle.palindromes.proofs.Tests.{false-not-true, decided}
 use Rattle.palindromes.proofs.Lists.{either-true}
 use Rattle.eertree.specs.Covers.{NodeOf}
 use Rattle.eertree.proofs.Rows.{imaginary-row}
-use Rattle.store.specs.Layout.{capacityIn, countIn, endRow, edgeIn, rankIn, usedIn, lettersIn}
+use Rattle.store.specs.Layout.{endRow, edgeIn, usedIn, lettersIn}
 use Rattle.store.specs.Good.{ruleOf, nodeIn, Good}
-use Rattle.transitions.proofs.Rows.{covers, used-root, used-is}
+use Rattle.transitions.proofs.Rows.{covers}
 use Rattle.audit_fixed.specs.Decides.{Decides}
 use Rattle.audit_tour.specs.Tour.{metIn, Toured}
 use Rattle.audit_rows.specs.Rows.{ZeroCells, EdgeRight, nowhere, there, EdgesRight, RowRight, RowsRight, EndsRight}
 use Rattle.audit_tour.specs.declared.Tour.{Tour}
 use Rattle.audit_fixed.proofs.Decided.{carried}
-use Rattle.audit_tour.proofs.Marks.{met-root, met-marked, met-unmarked}
+use Rattle.audit_tour.proofs.Marks.{met-root}
 use Rattle.audit_edge.proofs.Edge.{good-names}
 
 -- ---- letters
@@ -47,33 +46,20 @@ letter-cases P a c g t x h = ⊎-elim acg (λ e. is 84 e t) (either-true (eqb x 
 -- ---- the cases of a row
 
 module _ (b marks : Word) (r : ℕ) where
-  -- of a root the edges are asked
-  pub root-decided : r < 2 → (t : Bool) → Decides t (EdgesRight b marks r) → Decides t (RowRight b marks r)
-  root-decided l t d =
-      let u = used-root b r l in
-      carried (EdgesRight b marks r) (RowRight b marks r) t d
-      (λ e. record { met = λ v. met-root marks r l; edges = λ v. e; free = λ f. absurd (false-not-true f u) }) (λ h. h .edges u)
+  -- of a free row it is asked that it is zero
+  pub free-decided : usedIn b r ≡ false → (t : Bool) → Decides t (ZeroCells b r 8) → Decides t (RowRight b marks r)
+  free-decided u t d =
+      carried (ZeroCells b r 8) (RowRight b marks r) t d
+      (λ z. record { met = λ v. absurd (false-not-true u v); edges = λ v. absurd (false-not-true u v); free = λ v. z }) (λ h. h .free u)
 
-  module _ (l : 2 ≤ r) (k : r < capacityIn b + 2) where
-    -- of a free row that it is zero
-    pub free-decided : countIn b ≤ rankIn b r → (t : Bool) → Decides t (ZeroCells b r 8) → Decides t (RowRight b marks r)
-    free-decided m t d =
-        let u = used-is b r l k ∙ le-ltb (rankIn b r) (countIn b) m in
-        carried (ZeroCells b r 8) (RowRight b marks r) t d
-        (λ z. record { met = λ v. absurd (false-not-true u v); edges = λ v. absurd (false-not-true u v); free = λ v. z }) (λ h. h .free u)
+  module _ (u : usedIn b r ≡ true) where
+    -- and of any other that it was met, and its edges
+    pub unmet-fails : metIn marks r ≡ false → RowRight b marks r → ⊥
+    unmet-fails m h = false-not-true m (h .met u)
 
-    module _ (m : rankIn b r < countIn b) where
-      in-use : usedIn b r ≡ true
-      in-use = used-is b r l k ∙ lt-ltb (rankIn b r) (countIn b) m
-
-      -- and of any other its mark and its edges
-      pub unmarked-fails : (getD marks r 0 ≡ 1 → ⊥) → RowRight b marks r → ⊥
-      unmarked-fails n h = false-not-true (met-unmarked marks r l n) (h .met in-use)
-
-      pub used-decided : getD marks r 0 ≡ 1 → (t : Bool) → Decides t (EdgesRight b marks r) → Decides t (RowRight b marks r)
-      used-decided n t d =
-          carried (EdgesRight b marks r) (RowRight b marks r) t d
-          (λ e. record { met = λ v. met-marked marks r n; edges = λ v. e; free = λ f. absurd (false-not-true f in-use) }) (λ h. h .edges in-use)
+    pub used-decided : metIn marks r ≡ true → (t : Bool) → Decides t (EdgesRight b marks r) → Decides t (RowRight b marks r)
+    used-decided m t d =
+        carried (EdgesRight b marks r) (RowRight b marks r) t d (λ e. record { met = λ v. m; edges = λ v. e; free = λ f. absurd (false-not-true f u) }) (λ h. h .edges u)
 
 -- ---- in a good store
 

@@ -1,10 +1,12 @@
 // The rows once the tour is over: those in use are those that it met, their edges lead nowhere
 // else, and free rows are zero.
 ghost use mathlib.Core.Path.{_≡_};
-ghost use Prim.Native.Nat.{_+_, _*_, _≤_};
+ghost use Prim.Native.Nat.{_+_, _*_, _≤_, _<_};
 ghost use lib.ListN.{length};
+ghost use Rattle.store.specs.Layout.{capacityIn, usedIn};
 ghost use Rattle.store.specs.Good.{Sized};
 ghost use Rattle.audit_fixed.specs.Decides.{Decides};
+ghost use Rattle.audit_tour.specs.Tour.{metIn};
 ghost use Rattle.audit_rows.specs.Rows.{ZeroCells, RowAt, EdgeRight, EdgesRight, RowRight, RowsRight, EndsRight};
 use audit_edge::points_back;
 use audit_tour::Tour;
@@ -12,6 +14,29 @@ use store::cells;
 use store::header;
 use store::letters::Side;
 use store::rows;
+
+// Whether row r was met: it is a root, or marked.
+pub fn met(marks: &[u8], r: usize) -> bool
+    requires { ⌜ r < length (now marks) ⌝ }
+    ensures { λ v. ⌜ v ≡ metIn (now (marks .entry)) r ⌝ }
+{
+    if r < 2 {
+        return true;
+    }
+    marks[r] == 1
+}
+
+// Whether row r is in use: it is a root, or one of the first rows of the order.
+pub fn in_use(b: &[u8], r: usize) -> bool
+    requires { ⌜ Sized (now b) ⌝ }
+    requires { ⌜ r < capacityIn (now b) + 2 ⌝ }
+    ensures { λ v. ⌜ v ≡ usedIn (now (b .entry)) r ⌝ }
+{
+    if r < 2 {
+        return true;
+    }
+    rows::rank_of(b, r) < header::count(b)
+}
 
 // Whether the edge of row r by c leads nowhere, or to a row that was met and names it.
 pub fn edge_right(b: &[u8], marks: &[u8], r: usize, c: u8) -> bool
@@ -25,7 +50,7 @@ pub fn edge_right(b: &[u8], marks: &[u8], r: usize, c: u8) -> bool
     if !points_back(b, r, c, q) {
         return false;
     }
-    if marks[q] != 1 {
+    if !met(marks, q) {
         return false;
     }
     true
@@ -71,13 +96,10 @@ pub fn row_right(b: &[u8], marks: &[u8], r: usize) -> bool
     requires { ⌜ RowAt (now b) (now marks) r ⌝ }
     ensures { λ v. ⌜ Decides v (RowRight (now (b .entry)) (now (marks .entry)) r) ⌝ }
 {
-    if r < 2 {
-        return edges_right(b, marks, r);
-    }
-    if header::count(b) <= rows::rank_of(b, r) {
+    if !in_use(b, r) {
         return zeros(b, r, 8);
     }
-    if marks[r] != 1 {
+    if !met(marks, r) {
         return false;
     }
     edges_right(b, marks, r)

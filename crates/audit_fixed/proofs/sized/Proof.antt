@@ -17,14 +17,18 @@ returns-4 c h = omega (arith, h .sized .long-enough, c .if4 .taken, c .before .b
 returns-7 : tie.Need-returns-7
 unfolding storeSize
 returns-7 c =
-    let n = c .before .before .before .before .before .before .before .capacity .ensures .0 in
+    let fits = c .before .before in
+    let long = fits .before .before in
+    let most = long .before in
+    let least = most .before in
+    let capacity = least .before .capacity .ensures .0 in
     record {
       sized =
           record {
-            at-least-one = omega (arith, c .before .before .before .before .before .before .if2 .left);
-            at-most = omega (arith, c .before .before .before .before .before .if3 .left);
-            long-enough = omega (arith, c .before .before .before .before .if4 .left);
-            letters-fit = omega (arith, c .before .before .if5 .left, c .before .before .before .size .ensures .0);
+            at-least-one = omega (arith, least .if2 .left);
+            at-most = omega (arith, most .if3 .left);
+            long-enough = omega (arith, long .if4 .left);
+            letters-fit = omega (arith, fits .if5 .left, fits .before .size .ensures .0);
           };
       reading = sym (c .before .reading .ensures .0) ∙ c .if6 .left;
     }
