@@ -91,7 +91,8 @@ pub fn zeros(b: &[u8], r: usize, n: usize) -> bool
     true
 }
 
-// Whether row r is right: in use, met and with its edges right, or free and zero.
+// Whether row r is right: in use, met and with its edges right, or free and zero in the eight cells
+// of its length, link, inner row, letter and edges.
 pub fn row_right(b: &[u8], marks: &[u8], r: usize) -> bool
     requires { ⌜ RowAt (now b) (now marks) r ⌝ }
     ensures { λ v. ⌜ Decides v (RowRight (now (b .entry)) (now (marks .entry)) r) ⌝ }
@@ -111,9 +112,9 @@ pub fn rows_right(b: &[u8], marks: &[u8]) -> bool
     requires { ⌜ length (now marks) ≡ 1026 ⌝ }
     ensures { λ v. ⌜ Decides v (RowsRight (now (b .entry)) (now (marks .entry))) ⌝ }
 {
-    let rows = header::capacity(b) + 2;
+    let end = header::capacity(b) + 2;
     let mut r = 0;
-    while r < rows {
+    while r < end {
         if !row_right(b, marks, r) {
             return false;
         }

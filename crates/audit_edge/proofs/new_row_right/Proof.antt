@@ -1,6 +1,8 @@
 -- `audit_edge::new_row_right` tells whether a row is right as that of a new palindrome: each of its tests is one part of what is asked. Assumes nothing.
+use Prim.Native.Nat.{_+_, _*_, _≤_}
 use native.Mathlib.Omega.{arith}
 use mathlib.Core.Path.{sym, _∙_, subst}
+use lib.ListN.{length}
 use Rattle.walk.proofs.Chains.{chain-fits}
 use Rattle.walk.proofs.Stores.{header-fits}
 use Rattle.transitions.proofs.Rows.{row-fits}
@@ -16,20 +18,12 @@ from-longer c = c .before .before .before
 abbrev from-rank : tie.Else2 → tie.Start
 from-rank c = from-longer (c .before .before .before)
 
-longer-by-two-requires : tie.Need-longer-by-two-requires
-longer-by-two-requires c κs =
-    let s = c .before in
-    (chain-fits (s .pre .0 .chain), row-fits (s .pre .0 .sized) (s .args .q) (s .pre .1))
-
-rank-of-requires : tie.Need-rank-of-requires
-rank-of-requires c κs =
-    let s = from-longer (c .before) in
-    row-fits (s .pre .0 .sized) (s .args .q) (s .pre .1)
+-- both rows lie within the store
+fit : (s : tie.Start) → (24 * s .args .u + 24 ≤ length (s .args .b .now)) × (24 * s .args .q + 24 ≤ length (s .args .b .now))
+fit s = (chain-fits (s .pre .0 .chain), row-fits (s .pre .0 .sized) (s .args .q) (s .pre .1))
 
 link-of-requires : tie.Need-link-of-requires
-link-of-requires c κs =
-    let s = from-rank c in
-    row-fits (s .pre .0 .sized) (s .args .q) (s .pre .1)
+link-of-requires c κs = let f = fit (from-rank c) in omega (arith, f .0, f .1)
 
 returns-3 : tie.Need-returns-3
 returns-3 c = not-linked (c .before .link-found .result) (c .before .link-found .ensures) (λ e. c .if3 .taken (c .before .before .link-of .ensures .0 ∙ e))
@@ -47,10 +41,10 @@ pub new-row-right-spec : {M : Type 1} → statement M
 new-row-right-spec =
     tie.close
     (tie.spec
-    longer-by-two-requires
+    (λ c κs. fit (c .before))
     (λ c. not-longer (fails _ (c .before .longer-by-two .result) (c .before .longer-by-two .ensures) (c .if1 .taken)))
     (λ c κs. header-fits (from-longer c .pre .0 .sized))
-    rank-of-requires
+    (λ c κs. fit (from-longer (c .before)) .1)
     (λ c. not-used (omega (arith, c .if2 .taken, c .before .rank-of .ensures .0, c .before .before .count .ensures .0)))
     link-of-requires
     (λ c κs. from-rank (c .before) .pre .0)
