@@ -50,7 +50,7 @@ pub fn edge_right(b: &[u8], marks: &[u8], r: usize, c: u8) -> bool
     if !points_back(b, r, c, q) {
         return false;
     }
-    if !met(marks, q) {
+    if marks[q] != 1 {
         return false;
     }
     true
