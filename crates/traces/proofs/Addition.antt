@@ -18,9 +18,8 @@ use Rattle.palindromes.proofs.Words.{stands-or-not}
 use Rattle.palindromes.proofs.Change.{new-is-longest}
 use Rattle.palindromes.proofs.Places.{stands-true, stands-is}
 use Rattle.palindromes.proofs.NewIn.{new-in-added, gone-in-added}
-use Rattle.store.specs.Layout.{sizeIn}
-use Rattle.store.specs.Good.{ruleIn, ruleOf, Good}
-use Rattle.store.proofs.Sizes.{letters-length, rule-inverse}
+use Rattle.store.specs.Good.{ruleIn, Good}
+use Rattle.store.proofs.Sizes.{rule-inverse}
 use Rattle.transitions.specs.Rows.{rowOf, freeRow}
 use Rattle.transitions.specs.Addition.{longestAfter, bringsIn, rowAfter as rowAfterAddition, afterAddition}
 use Rattle.transitions.proofs.Rows.{row-of, row-of-node}
@@ -32,7 +31,7 @@ use Rattle.traces.specs.Run.{lettersStep, rowStep}
 use Rattle.traces.specs.Claims.{Added}
 use Rattle.outcome.proofs.Replies.{reply-of-added}
 use Rattle.outcome.proofs.Refusals.{add-letter, add-full, add-accepted, carried-out, refused-out}
-use Rattle.traces.proofs.State.{State}
+use Rattle.traces.proofs.State.{State, rule-is, size-is}
 use Rattle.traces.proofs.Shared.{moved, number-zero, zero-first}
 
 -- the state with the rows said in another way
@@ -52,12 +51,6 @@ answered-row m s e c r row f =
 module _ (m k : ℕ) (s : Word) (row : Word → ℕ) (b : Word) (st : State m k s row b) where
   good : Good b
   good = st .good
-
-  rule-is : ruleOf b ≡ ruleIn m
-  rule-is = ap ruleIn (st .reading)
-
-  pub size-is : sizeIn b ≡ length s
-  size-is = sym (letters-length (good .sized)) ∙ ap length (st .letters)
 
   -- ---- an addition
 
@@ -92,7 +85,7 @@ module _ (m k : ℕ) (s : Word) (row : Word → ℕ) (b : Word) (st : State m k 
     -- the longest repeat at the call's end, read after the addition, and whether it is new
     longest-is : longestAfter e c b ≡ v
     unfolding longestAfter
-    longest-is = ap₂ (λ (σ : ℕ → ℕ) (t : Word). longestAt σ e (added e c t)) rule-is (st .letters)
+    longest-is = ap₂ (λ (σ : ℕ → ℕ) (t : Word). longestAt σ e (added e c t)) (rule-is st) (st .letters)
 
     brings-is : bringsIn e c b ≡ not (stands v s)
     unfolding bringsIn
@@ -109,7 +102,7 @@ module _ (m k : ℕ) (s : Word) (row : Word → ℕ) (b : Word) (st : State m k 
     pub facts : room ≡ true → Updates·Added.Added e c b
     facts h =
         let g = both-true (isLetter c) (ltb (length s) k) h in
-        addition e good (g .0) (omega (arith, ltb-true (length s) k (g .1), st .capacity, size-is))
+        addition e good (g .0) (omega (arith, ltb-true (length s) k (g .1), st .capacity, (size-is st)))
 
     pub store-is : room ≡ true → o .store ≡ afterAddition e c b
     unfolding acceptedOutcome changed
@@ -129,7 +122,7 @@ module _ (m k : ℕ) (s : Word) (row : Word → ℕ) (b : Word) (st : State m k 
 
         old : Stands w s → rowStep m s (add e c) (o .reply) row w ≡ rowOf (afterAddition e c b) (spelt w)
         old q =
-            let held = row-of-node good (spelt w) (rw rule-is (p .symmetric), subst (Stands w) (sym (st .letters)) q) in
+            let held = row-of-node good (spelt w) (rw (rule-is st) (p .symmetric), subst (Stands w) (sym (st .letters)) q) in
             let keeps = f .old-row (rowOf b (spelt w)) (held .0) in
             ap (λ (r : Reply). cond (r .flag && sameWord w v) (r .row) (row w)) (reply-is h)
             ∙ go (bringsIn e c b) (sameWord w v) refl refl

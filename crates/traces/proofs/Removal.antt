@@ -18,9 +18,9 @@ use Rattle.palindromes.proofs.Words.{removed-empty, same-or-not}
 use Rattle.palindromes.proofs.Change.{stands-removed}
 use Rattle.palindromes.proofs.Places.{stands-is, stands-empty}
 use Rattle.palindromes.proofs.NewIn.{longest-at, gone-in-removed, new-in-removed}
-use Rattle.store.specs.Layout.{sizeIn, usedIn, lettersIn}
-use Rattle.store.specs.Good.{ruleIn, ruleOf, nodeIn, Good}
-use Rattle.store.proofs.Sizes.{letters-length, rule-inverse}
+use Rattle.store.specs.Layout.{usedIn, lettersIn}
+use Rattle.store.specs.Good.{ruleIn, nodeIn, Good}
+use Rattle.store.proofs.Sizes.{rule-inverse}
 use Rattle.transitions.specs.Rows.{rowOf}
 use Rattle.transitions.specs.Removal.{longestBefore, takesOut, afterRemoval}
 use Rattle.transitions.proofs.Rows.{row-of, row-of-node}
@@ -31,7 +31,7 @@ use Rattle.outcome.specs.Outcome.{Lent, Outcome, outcome, acceptedOutcome, refu
 use Rattle.traces.specs.Claims.{Removed}
 use Rattle.outcome.proofs.Replies.{reply-of-removed}
 use Rattle.outcome.proofs.Refusals.{remove-empty, remove-accepted, carried-out, refused-out}
-use Rattle.traces.proofs.State.{State}
+use Rattle.traces.proofs.State.{State, rule-is, size-is}
 use Rattle.traces.proofs.Shared.{moved, number-zero, zero-first}
 use Rattle.palindromes.proofs.Answers.{once-only}
 
@@ -51,12 +51,6 @@ module _ (m k : ℕ) (s : Word) (row : Word → ℕ) (b : Word) (st : State m k 
   good : Good b
   good = st .good
 
-  rule-is : ruleOf b ≡ ruleIn m
-  rule-is = ap ruleIn (st .reading)
-
-  size-is : sizeIn b ≡ length s
-  size-is = sym (letters-length (good .sized)) ∙ ap length (st .letters)
-
   module _ (e : End) (l : Lent) where
     abbrev o : Outcome
     o = outcome (remove e) b l
@@ -72,14 +66,14 @@ module _ (m k : ℕ) (s : Word) (row : Word → ℕ) (b : Word) (st : State m k 
 
     before-is : longestBefore e b ≡ u
     unfolding longestBefore
-    before-is = ap₂ (λ (σ : ℕ → ℕ) (t : Word). longestAt σ e t) rule-is (st .letters)
+    before-is = ap₂ (λ (σ : ℕ → ℕ) (t : Word). longestAt σ e t) (rule-is st) (st .letters)
 
     takes-is : takesOut e b ≡ not (stands u (removed e s))
     unfolding takesOut
     takes-is = ap₂ (λ (x t : Word). not (stands x (removed e t))) before-is (st .letters)
 
     removed-facts : (s ≡ [] → ⊥) → Updates·Removed.Removed e b
-    removed-facts h = removal e good (omega (arith, size-is, not-empty-length s h))
+    removed-facts h = removal e good (omega (arith, (size-is st), not-empty-length s h))
 
     remove-reply : (s ≡ [] → ⊥) → o .reply ≡ accepted (takesOut e b) (cond (takesOut e b) (rowOf b (spelt u)) 0) (letterAt e s) 0
     unfolding acceptedOutcome changed

@@ -31,7 +31,7 @@ use Rattle.traces.specs.Claims.{Replies, Shown, numberOf, Table}
 use Rattle.outcome.proofs.Replies.{reply-of-found}
 use Rattle.outcome.proofs.Told.{told}
 use Rattle.outcome.proofs.Refusals.{find-accepted, row-accepted, row-free, spell-free, carried-out, refused-out}
-use Rattle.traces.proofs.State.{State}
+use Rattle.traces.proofs.State.{State, rule-is}
 
 -- the nodes that a palindrome links to and holds inside are nodes of the same record
 pub link-node : (m : ℕ) (w : Word) {s : Word} → Palindrome (ruleIn m) w → Stands w s → NodeOf (ruleIn m) s (linkOf (ruleIn m) (spelt w))
@@ -49,9 +49,6 @@ module _ (m k : ℕ) (s : Word) (row : Word → ℕ) (b : Word) (st : State m k 
   good : Good b
   good = st .good
 
-  rule-is : ruleOf b ≡ ruleIn m
-  rule-is = ap ruleIn (st .reading)
-
   -- what stands in the letters stands in the store's letters
   in-store : {w : Word} → Stands w s → Stands w (lettersIn b)
   in-store {w} h = subst (Stands w) (sym (st .letters)) h
@@ -62,7 +59,7 @@ module _ (m k : ℕ) (s : Word) (row : Word → ℕ) (b : Word) (st : State m k 
   -- the row of a repeat is used and holds it
   pub row-holds : (w : Word) → Palindrome (ruleIn m) w → Stands w s → (usedIn b (row w) ≡ true) × (nodeIn b (row w) ≡ spelt w)
   row-holds w p h =
-      subst (λ (r : ℕ). (usedIn b r ≡ true) × (nodeIn b r ≡ spelt w)) (sym (st .rows w p h)) (row-of-node good (spelt w) (rw rule-is (p .symmetric), in-store h))
+      subst (λ (r : ℕ). (usedIn b r ≡ true) × (nodeIn b r ≡ spelt w)) (sym (st .rows w p h)) (row-of-node good (spelt w) (rw (rule-is st) (p .symmetric), in-store h))
 
   -- the row of any node of the record
   pub number-is : (v : Node) → NodeOf (ruleIn m) s v → numberOf row v ≡ rowOf b v
@@ -81,7 +78,7 @@ module _ (m k : ℕ) (s : Word) (row : Word → ℕ) (b : Word) (st : State m k 
       held : usedIn b r ≡ true → ⊥
       held u =
           let d = word-row (covers good) r u h in
-          let p : Palindrome (ruleIn m) (d .0) = subst (λ (σ : ℕ → ℕ). Palindrome σ (d .0)) rule-is (d .2) in
+          let p : Palindrome (ruleIn m) (d .0) = subst (λ (σ : ℕ → ℕ). Palindrome σ (d .0)) (rule-is st) (d .2) in
           n (d .0) p (out-store (d .3)) (st .rows (d .0) p (out-store (d .3)) ∙ row-of good r (spelt (d .0)) u (d .1))
 
   -- ---- the outcomes
@@ -93,7 +90,7 @@ module _ (m k : ℕ) (s : Word) (row : Word → ℕ) (b : Word) (st : State m k 
   pub find-outcome : (w : Word) → Palindrome (ruleIn m) w → Stands w s → (l : Lent) → outcome (ask (find w)) b l ≡ Unchanged (accepted true (row w) 0 0) l
   unfolding acceptedOutcome answerTo lentAfter
   find-outcome w p h l =
-      let there : member w (palindromes (ruleOf b) (lettersIn b)) ≡ true = rw rule-is (palindromes-is (ruleIn m) w (lettersIn b) p (in-store h)) in
+      let there : member w (palindromes (ruleOf b) (lettersIn b)) ≡ true = rw (rule-is st) (palindromes-is (ruleIn m) w (lettersIn b) p (in-store h)) in
       carried-out (ask (find w)) b l (find-accepted b l w (p .non-empty) (letters-piece (in-store h) (good .letters)))
       ∙ ap (λ (r : Reply). Unchanged r l)
       (reply-of-found (member w (palindromes (ruleOf b) (lettersIn b))) (rowOf b (spelt w)) ∙ ap₂ (λ (t : Bool) (r : ℕ). accepted t (cond t r 0) 0 0) there (sym (st .rows w p h)))
@@ -102,7 +99,7 @@ module _ (m k : ℕ) (s : Word) (row : Word → ℕ) (b : Word) (st : State m k 
   unfolding acceptedOutcome answerTo lentAfter
   absent-outcome w f g n l =
       let missing : member w (palindromes (ruleOf b) (lettersIn b)) ≡ false =
-      not-true-false (member w (palindromes (ruleOf b) (lettersIn b))) (λ e. let h = palindromes-true (ruleOf b) w (lettersIn b) e in n (rw rule-is at (h .0)) (out-store (h .1))) in
+      not-true-false (member w (palindromes (ruleOf b) (lettersIn b))) (λ e. let h = palindromes-true (ruleOf b) w (lettersIn b) e in n (rw (rule-is st) at (h .0)) (out-store (h .1))) in
       carried-out (ask (find w)) b l (find-accepted b l w f g)
       ∙ ap (λ (r : Reply). Unchanged r l)
       (reply-of-found (member w (palindromes (ruleOf b) (lettersIn b))) (rowOf b (spelt w)) ∙ ap (λ (t : Bool). accepted t (cond t (rowOf b (spelt w)) 0) 0 0) missing)
@@ -114,7 +111,7 @@ module _ (m k : ℕ) (s : Word) (row : Word → ℕ) (b : Word) (st : State m k 
       let held = row-holds w p h in
       carried-out (ask (theRow (row w))) b l (row-accepted b l (row w) (held .0))
       ∙ ap (λ (r : Reply). Unchanged r l)
-      (ap (λ (σ : ℕ → ℕ). accepted false (rowOf b (linkOf σ (nodeIn b (row w)))) (twosComplement (lengthOf (nodeIn b (row w)))) (rowOf b (innerOf (nodeIn b (row w))))) rule-is
+      (ap (λ (σ : ℕ → ℕ). accepted false (rowOf b (linkOf σ (nodeIn b (row w)))) (twosComplement (lengthOf (nodeIn b (row w)))) (rowOf b (innerOf (nodeIn b (row w))))) (rule-is st)
       ∙ ap (λ (v : Node). accepted false (rowOf b (linkOf (ruleIn m) v)) (twosComplement (lengthOf v)) (rowOf b (innerOf v))) (held .1)
       ∙ ap₂ (λ (x y : ℕ). accepted false x (length w) y) (sym (number-is (linkOf (ruleIn m) (spelt w)) (link-node m w p h))) (sym (number-is (innerOf (spelt w)) (inner-node m w p h))))
 
@@ -155,5 +152,5 @@ module _ (m k : ℕ) (s : Word) (row : Word → ℕ) (b : Word) (st : State m k 
         capacity = st .capacity;
         reading = st .reading;
         letters = st .letters;
-        table = subst₂ (λ (σ : ℕ → ℕ) (t : Word). IsEertree σ t (tableIn b) (nodeIn b)) rule-is (st .letters) (is-eertree (good .table));
+        table = subst₂ (λ (σ : ℕ → ℕ) (t : Word). IsEertree σ t (tableIn b) (nodeIn b)) (rule-is st) (st .letters) (is-eertree (good .table));
       }

@@ -25,8 +25,8 @@ use Rattle.outcome.specs.Outcome.{Lent, Outcome, outcome, acceptedOutcome, chan
 use Rattle.traces.specs.Claims.{Added}
 use Rattle.outcome.proofs.Replies.{reply-of-removed}
 use Rattle.outcome.proofs.Refusals.{remove-accepted, carried-out}
-use Rattle.traces.proofs.State.{State}
-use Rattle.traces.proofs.Addition.{add-claim, room, facts, store-is, reply-is, size-is}
+use Rattle.traces.proofs.State.{State, size-is}
+use Rattle.traces.proofs.Addition.{add-claim, room, facts, store-is, reply-is}
 
 -- the addition's outcome, and that of the removal at once after it
 pub record Back (b : Word) (c : ℕ) (first second : Outcome) : Type 0 where
@@ -60,7 +60,7 @@ module _ (m k : ℕ) (s : Word) (row : Word → ℕ) (b : Word) (st : State m k 
     valid = both-true (isLetter c) (ltb (length s) k) roomy .0
 
     below : sizeIn b < capacityIn b
-    below = omega (arith, ltb-true (length s) k (both-true (isLetter c) (ltb (length s) k) roomy .1), st .capacity, size-is m k s row b st)
+    below = omega (arith, ltb-true (length s) k (both-true (isLetter c) (ltb (length s) k) roomy .1), st .capacity, size-is st)
 
     letters-now : lettersIn (o .store) ≡ added e c s
     letters-now = ap lettersIn stored ∙ made .letters ∙ ap (added e c) (st .letters)
