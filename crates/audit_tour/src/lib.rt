@@ -11,13 +11,13 @@ use audit_edge::new_row_right;
 use audit_edge::points_back;
 use store::lengths;
 use store::lengths::Place;
-use store::letters;
 use store::letters::Side;
 use store::rows;
 use store::rows::Row;
 use walk::Walked;
 use walk::frame::Frame;
 use walk::frame::frame_of;
+use walk::frame::seen;
 
 // Where a tour stands: the row of the longest palindrome that ends the letters so far, the row of
 // the longest that begins them, and how many rows were met.
@@ -82,7 +82,7 @@ pub fn advance(b: &[u8], f: Frame, marks: &mut [u8], k: usize, tour: Tour) -> Vi
     requires { ⌜ Reading (now b) (now marks) k tour ⌝ }
     ensures { λ r. ⌜ Visited (now (b .entry)) (now (marks .exit)) (readIn (now (b .entry)) (k + 1)) r ⌝ }
 {
-    let d = letters::seen(b, f.reading, f.base, f.n, Side::Right, k);
+    let d = seen(b, f, Side::Right, k);
     let found = walk::walk(b, f, Side::Right, k, tour.row, d);
     match found {
         Walked::At(u) => enter(b, f, marks, k, tour, u, d),

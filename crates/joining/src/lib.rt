@@ -1,12 +1,23 @@
-// A letter joins or leaves an end of the record's letters, which move where it is the left end.
+// A letter joins or leaves an end of the record's letters, which move where it is the left end; and which letter stands there.
 use store::letters::Side;
 ghost use mathlib.Core.Path.{_≡_};
 ghost use mathlib.Core.List.{_++_, _∷_, []};
 ghost use Prim.Native.Nat.{_+_, _<_, _≤_};
 ghost use lib.ListN.{length, take, drop};
 ghost use lib.Seq.{sets};
-ghost use Rattle.palindromes.specs.End.{added, removed};
+ghost use Rattle.palindromes.specs.End.{added, removed, letterAt};
 ghost use Rattle.store.specs.Side.{endOf};
+
+// The letter at a side of the n letters at `base`.
+pub fn letter_at(b: &[u8], base: usize, n: usize, side: Side) -> u8
+    requires { ⌜ (base + n ≤ length (now b)) × (0 < n) ⌝ }
+    ensures { λ r. ⌜ r ≡ letterAt (endOf side) (take n (drop base (now (b .entry)))) ⌝ }
+{
+    match side {
+        Side::Left => b[base],
+        Side::Right => b[base + (n - 1)],
+    }
+}
 
 // Moves the n letters at `base` one place to the right, the last one first.
 fn move_right(b: &mut [u8], base: usize, n: usize)

@@ -2,7 +2,6 @@
 // the end still stands and which is the longest there without the letter.
 use outcome::answers::Removed;
 use store::header;
-use store::letters;
 use store::letters::Side;
 use store::rows;
 use walk::frame;
@@ -38,7 +37,7 @@ fn part(b: &[u8], side: Side) -> Parting
     let longest = rows::length_of(b, row);
     let link = rows::link_of(b, row);
     Parting {
-        letter: letters::letter_at(b, f.base, f.n, side),
+        letter: joining::letter_at(b, f.base, f.n, side),
         row,
         met: found.met,
         last: found.last,

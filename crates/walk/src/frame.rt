@@ -1,8 +1,13 @@
 // The frame of a store: where its letters lie and how they are read. It is taken from the header
 // once and handed to whatever reads letters.
 use store::header;
+use store::letters::Side;
+use store::letters::partner;
+ghost use mathlib.Core.Path.{_≡_};
+ghost use Prim.Native.Nat.{_+_, _<_, _≤_};
+ghost use lib.ListN.{length, getD};
 ghost use Rattle.store.specs.Good.{Sized};
-ghost use Rattle.walk.specs.Frame.{Frames};
+ghost use Rattle.walk.specs.Frame.{Frames, seenIn};
 
 // The partner rule's reading, the place of the first letter, how many letters stand, and how many
 // have room.
@@ -24,5 +29,18 @@ pub fn frame_of(b: &[u8]) -> Frame
         base: 24 * (capacity + 2),
         n: header::size(b),
         capacity,
+    }
+}
+
+// Letter i of the frame, read towards a side.
+pub fn seen(b: &[u8], f: Frame, side: Side, i: usize) -> u8
+    requires { ⌜ (f .base + f .n ≤ length (now b)) × (i < f .n) ⌝ }
+    ensures { λ r. ⌜ r ≡ getD (seenIn (now (b .entry)) f side) i 0 ⌝ }
+{
+    let base = f.base;
+    let n = f.n;
+    match side {
+        Side::Right => b[base + i],
+        Side::Left => partner(f.reading, b[base + (n - 1 - i)]),
     }
 }

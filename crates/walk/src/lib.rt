@@ -36,7 +36,7 @@ pub fn faces(b: &[u8], f: Frame, side: Side, k: usize, row: usize, want: u8) -> 
 {
     let place = lengths::before(k, rows::length_of(b, row));
     match place {
-        Place::At(i) => letters::seen(b, f.reading, f.base, f.n, side, i) == want,
+        Place::At(i) => frame::seen(b, f, side, i) == want,
         Place::Outside => false,
     }
 }

@@ -3,8 +3,8 @@
 // palindrome stands there.
 use super::frame::Frame;
 use super::frame::frame_of;
+use super::frame::seen;
 use super::step;
-use store::letters;
 use store::letters::Side;
 use store::rows::Row;
 ghost use mathlib.Core.Path.{_≡_};
@@ -25,7 +25,7 @@ pub fn next(b: &[u8], f: Frame, side: Side, k: usize, row: usize) -> usize
     requires { ⌜ Holds (now b) (lettersTowards (now b) (endOf side)) k row ⌝ }
     ensures { λ r. ⌜ Holds (now (b .entry)) (lettersTowards (now (b .entry)) (endOf side)) (k + 1) r ⌝ }
 {
-    let d = letters::seen(b, f.reading, f.base, f.n, side, k);
+    let d = seen(b, f, side, k);
     step(b, f, side, k, row, d)
 }
 

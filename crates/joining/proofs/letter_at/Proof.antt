@@ -1,10 +1,10 @@
--- `store::letters::letter_at` reads the letter at the side that it is given. Assumes nothing.
+-- `joining::letter_at` reads the letter at the side that it is given. Assumes nothing.
 use mathlib.Core.Path.{sym}
 use borrow.Author.Needs.{needs}
 use Rattle.palindromes.specs.End.{atLeft, atRight}
 use Rattle.store.proofs.Ends.{part-letter}
-use Rattle.store.proofs.letters.letter_at.Statement.{statement}
-use Rattle.store.proofs.letters.letter_at.Tie as tie
+use Rattle.joining.proofs.letter_at.Statement.{statement}
+use Rattle.joining.proofs.letter_at.Tie as tie
 
 returns : tie.Need-returns
 returns c =
