@@ -4,10 +4,10 @@ ghost use Rattle.palindromes.specs.Refusal.{ask, theLongest, theLongestAt};
 ghost use Rattle.store.specs.Side.{endOf};
 ghost use Rattle.outcome.specs.Promise.{nothing, Asked};
 ghost use Rattle.outcome.specs.Verdict.{Verdict};
+use longest_palindrome::ends;
+use longest_palindrome::whole;
 use outcome::pack;
 use outcome::refuse;
-use questions::ends;
-use questions::longest;
 use questions::record;
 use store::letters::Side;
 
@@ -32,7 +32,7 @@ pub fn longest_repeat(store: &[u8]) -> u64
     if number != 0 {
         return refuse(number);
     }
-    let found = longest::longest(store);
+    let found = whole::longest(store);
     pack(false, 0, found.length, found.place)
 }
 

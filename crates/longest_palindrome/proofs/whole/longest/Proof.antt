@@ -1,4 +1,4 @@
--- `questions::longest::longest` reads the letters from left to right. The loop's invariant (`Turn`): the row is that of the longest palindrome that ends the letters read, and the length and
+-- `longest_palindrome::whole::longest` reads the letters from left to right. The loop's invariant (`Turn`): the row is that of the longest palindrome that ends the letters read, and the length and
 -- the place are the answer for those. The measure is what is left to read. Assumes nothing.
 use Prim.Native.Nat.{ℕ, _+_, _-_, _≤_}
 use native.Mathlib.Omega.{arith}
@@ -11,9 +11,9 @@ use Rattle.store.specs.Good.{ruleOf}
 use Rattle.store.proofs.Sizes.{letters-length}
 use Rattle.walk.specs.Replay.{endingIn, Holds}
 use Rattle.walk.proofs.Right.{to-right, from-right, right-first, ending-length, ending-most}
-use Rattle.questions.proofs.Best.{Best, best-first, best-next, best-last}
-use Rattle.questions.proofs.longest.longest.Statement.{statement}
-use Rattle.questions.proofs.longest.longest.Tie as tie
+use Rattle.longest_palindrome.proofs.Best.{Best, best-first, best-next, best-last}
+use Rattle.longest_palindrome.proofs.whole.longest.Statement.{statement}
+use Rattle.longest_palindrome.proofs.whole.longest.Tie as tie
 
 -- what holds when the first k of n letters have been read
 record Turn (b : Word) (n row length place k : ℕ) : Type 0 where

@@ -24,7 +24,7 @@ use Rattle.store.proofs.Sizes.{rule-inverse, letters-length}
 use Rattle.transitions.proofs.Rows.{covers}
 use Rattle.walk.specs.Replay.{lettersTowards, Surveyed}
 use Rattle.walk.proofs.Towards.{towards-removed, longest-towards, stands-towards-test}
-use Rattle.questions.specs.Ends.{longestIn}
+use Rattle.longest_palindrome.specs.Ends.{longestIn}
 
 module _ {b : Word} (g : Good b) (e : End) (some : 0 < sizeIn b) where
   -- it stands once only exactly if it does not stand in the letters without the last one at the end

@@ -11,7 +11,7 @@ ghost use Rattle.store.specs.Layout.{sizeIn, lettersIn};
 ghost use Rattle.store.specs.Good.{Good};
 ghost use Rattle.store.specs.Side.{endOf};
 ghost use Rattle.transitions.specs.Rows.{rowOf};
-ghost use Rattle.questions.specs.Ends.{longestIn};
+ghost use Rattle.longest_palindrome.specs.Ends.{longestIn};
 
 // The row of the longest palindrome at an end, and whether that stands once only.
 pub struct AtEnd {

@@ -1,13 +1,13 @@
--- `questions::ends::longest_at` reads the end's row and, where that is no root's, reads all letters but the last one on that side. Assumes nothing.
+-- `longest_palindrome::ends::longest_at` reads the end's row and, where that is no root's, reads all letters but the last one on that side. Assumes nothing.
 use native.Mathlib.Omega.{arith}
 use borrow.Author.Needs.{needs}
 use mathlib.Core.Path.{_∙_}
 use Rattle.store.specs.Side.{endOf}
 use Rattle.transitions.proofs.Rows.{end-row}
 use Rattle.walk.proofs.Stores.{header-fits}
-use Rattle.questions.proofs.AtEnds.{once-root, once-surveyed}
-use Rattle.questions.proofs.ends.longest_at.Statement.{statement}
-use Rattle.questions.proofs.ends.longest_at.Tie as tie
+use Rattle.longest_palindrome.proofs.AtEnds.{once-root, once-surveyed}
+use Rattle.longest_palindrome.proofs.ends.longest_at.Statement.{statement}
+use Rattle.longest_palindrome.proofs.ends.longest_at.Tie as tie
 
 returns : tie.Need-returns
 returns c =
