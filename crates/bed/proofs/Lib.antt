@@ -1,5 +1,4 @@
--- the laws of specs/Digits.antt and of the BED definitions of the crate palindromes, by subject
-pub mod Decimal
+-- the laws of the BED lines of the crate palindromes, by subject
 pub mod Line
 pub mod Listing
-pub mod Stores
+pub mod Written

@@ -1,6 +1,6 @@
 -- A BED line can be read back: no other identifier, start and end have the same line, whatever follows it. An identifier holds no tab, and the digits
 -- of a number neither a tab nor an LF, so each field ends at the first byte that cannot stand in it.
--- Rests on proofs/Decimal.antt, that digits are digits and say their number. Assumes nothing.
+-- Rests on the laws of `decimal`, that digits are digits and say their number. Assumes nothing.
 use Prim.Native.Nat.{ℕ, _+_, _<_}
 use native.Mathlib.Omega.{arith}
 use mathlib.Core.Path.{_≡_, refl, sym, ap, _∙_}
@@ -11,7 +11,7 @@ use lib.ListN.{length, length-append}
 use Rattle.palindromes.specs.Word.{Word}
 use Rattle.palindromes.specs.Bed.{isIdentifierByte, allIdentifierBytes, isIdentifier, decimal, bedLine}
 use Rattle.palindromes.proofs.Tests.{both-true, false-not-true}
-use Rattle.bed.proofs.Decimal.{digit-bytes, decimal-injective}
+use Rattle.decimal.proofs.Decimal.{digit-bytes, decimal-injective}
 
 -- two words that are cut at the first place of a byte are cut alike
 pub first-cut : (c : ℕ) (u v x y : Word) → (List·Memᴰ c u → ⊥) → (List·Memᴰ c v → ⊥) → u ++ (c ∷ x) ≡ v ++ (c ∷ y) → (u ≡ v) × (x ≡ y)

@@ -3,28 +3,19 @@
 use Prim.Native.Nat.{ℕ, _+_, _*_, _≤_, _<_}
 use native.Mathlib.Omega.{arith}
 use mathlib.Core.Path.{_≡_}
-use mathlib.Core.Bool.{true, _&&_}
+use mathlib.Core.Bool.{true}
 use mathlib.Core.List.{List, [], _∷_}
-use lib.Dec.{leb}
 use lib.ListN.{length, length-append}
-use borrow.Author.Tests.{leb-true}
 use Rattle.palindromes.specs.Word.{Word, member}
 use Rattle.palindromes.specs.Place.{Stands, firstPlace}
 use Rattle.palindromes.specs.Record.{palindromes, count}
-use Rattle.palindromes.specs.Bed.{allIdentifierBytes, isIdentifier, bedLines, listing}
-use Rattle.palindromes.proofs.Tests.{both-true}
+use Rattle.palindromes.specs.Bed.{isIdentifier, bedLines, listing}
 use Rattle.palindromes.proofs.Lists.{member-first, member-later}
 use Rattle.palindromes.proofs.Places.{first-end-fits}
 use Rattle.palindromes.proofs.Palindromes.{palindromes-true, count-length}
-use Rattle.bed.proofs.Decimal.{at-most-five}
+use Rattle.identifier.proofs.Identifiers.{identifier-length}
+use Rattle.decimal.proofs.Decimal.{at-most-five}
 use Rattle.bed.proofs.Line.{line-size}
-
--- an identifier has at most 32 bytes
-pub identifier-length : (w : Word) → isIdentifier w ≡ true → length w ≤ 32
-unfolding isIdentifier
-identifier-length w h =
-    let f = both-true (leb 1 (length w) && leb (length w) 32) (allIdentifierBytes w) h .0 in
-    leb-true (length w) 32 (both-true (leb 1 (length w)) (leb (length w) 32) f .1)
 
 -- lines of words that stand in the record
 lines-most : (name s : Word) → length name ≤ 32 → length s < 65536 → (ps : List Word) → ((p : Word) → member p ps ≡ true → Stands p s) → length (bedLines name s ps) ≤ 45 * length ps

@@ -6,7 +6,7 @@ use lib.Dec.{leb}
 use lib.ListN.{length}
 use borrow.Author.Tests.{le-leb, lt-leb}
 use Rattle.palindromes.specs.Word.{Word, allLetters}
-use Rattle.printing.specs.Filled.{Filled}
+use Rattle.filling.specs.Filled.{Filled}
 use Rattle.bench_fill.specs.Fills.{fillable, Fills}
 
 module _ (b w : Word) where

@@ -5,7 +5,7 @@ use mathlib.Core.Bool.{Bool, true, false, _&&_}
 use lib.Dec.{leb}
 use lib.ListN.{length}
 use Rattle.palindromes.specs.Word.{Word, allLetters}
-use Rattle.printing.specs.Filled.{Filled}
+use Rattle.filling.specs.Filled.{Filled}
 
 -- whether the store has room for 1,024 letters, and there are letters alone and no more than that
 unfoldable pub fillable : Word → Word → Bool

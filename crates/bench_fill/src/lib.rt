@@ -2,7 +2,7 @@
 // capacity 1,024 is opened and letters are added at its right end, as mirrorlist does.
 ghost use Rattle.bench_fill.specs.Fills.{Fills};
 use alphabet::all_letters;
-use printing::record;
+use filling::fill;
 
 // Fills a record, and answers how many letters it was given; 0 where it has no room or a byte is no
 // letter, and the store then stays.
@@ -20,6 +20,6 @@ pub extern "C" fn bench_fill(store: &mut [u8], letters: &[u8]) -> u64
         return 0;
     }
     opening::open(store, 1024);
-    record::fill(store, letters);
+    fill(store, letters);
     letters.len() as u64
 }

@@ -3,7 +3,7 @@ ghost use mathlib.Core.Path.{_≡_};
 ghost use Prim.Native.Nat.{_<_};
 ghost use lib.ListN.{length, drop};
 ghost use Rattle.palindromes.specs.Fasta.{identifierLength, startsWithLf, endsIdentifier, goodFirstLine, afterFirstLine};
-use bed::is_identifier_byte;
+use identifier::is_identifier_byte;
 
 // The length of the identifier after the first byte.
 pub fn identifier_length(text: &[u8]) -> usize

@@ -3,7 +3,7 @@
 ghost use Rattle.palindromes.specs.Refusal.{ask, list};
 ghost use Rattle.outcome.specs.Promise.{lending, Asked};
 ghost use Rattle.outcome.specs.Verdict.{Verdict};
-use bed::is_identifier;
+use identifier::is_identifier;
 use outcome::pack;
 use outcome::refuse;
 use questions::record;

@@ -18,7 +18,7 @@ use Rattle.palindromes.proofs.Listing.{listing-empty, prefix-listing}
 use Rattle.store.specs.Layout.{sizeIn, lettersIn}
 use Rattle.store.specs.Good.{ruleOf, Good}
 use Rattle.store.proofs.Sizes.{letters-length}
-use Rattle.bed.proofs.Listing.{identifier-length}
+use Rattle.identifier.proofs.Identifiers.{identifier-length}
 use Rattle.walk.specs.Replay.{endingIn}
 use Rattle.listing.specs.Listing.{listingIn}
 use Rattle.listing.specs.Marks.{ReadOn}

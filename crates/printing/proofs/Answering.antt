@@ -1,54 +1,25 @@
--- What is printed: the line of a refusal as it is written part by part, and what a reading of the text prints.
+-- What is printed: what a text prints by its length, and what a reading of it prints.
 -- Rests on what an accepted text says (`fasta`). Assumes nothing.
 use Prim.Native.Nat.{ℕ, _+_, _≤_, _<_}
 use native.Mathlib.Omega.{arith}
-use mathlib.Core.Path.{_≡_, refl, ap, ap₂, _∙_}
+use mathlib.Core.Path.{_≡_, refl, ap, _∙_}
 use mathlib.Core.Bool.{Bool, true, false, cond}
-use mathlib.Core.List.{[], _∷_, _++_}
 use lib.Dec.{ltb}
-use lib.ListN.{length, set, take, drop, length-append}
+use lib.ListN.{length, take, drop}
 use lib.Seq.{sets, length-sets, sets-eq, take-at}
 use borrow.Author.Tests.{lt-ltb, le-ltb}
 use Rattle.palindromes.specs.Word.{Word}
 use Rattle.palindromes.specs.Palindrome.{plain}
-use Rattle.palindromes.specs.Bed.{decimal, listing}
+use Rattle.palindromes.specs.Bed.{listing}
 use Rattle.palindromes.specs.Fasta.{Fasta, refused, accepted, readFasta}
 use Rattle.fasta.specs.Reader.{readingOf, writtenTo}
 use Rattle.fasta.specs.declared.Reading.the-variants.{Accepted, Refused}
 use Rattle.fasta.proofs.Accepted.{Accepts, accepts, refusal-small}
-use Rattle.bed.proofs.Decimal.{at-most-five}
 use Rattle.bed.proofs.Listing.{listing-most}
-use Rattle.bed.proofs.Stores.{sets-append}
-use Rattle.printing.specs.Printed.{refusedLine, identifierOf, printedFor, printed}
-use Rattle.printing.specs.Filled.{Read}
-
--- the words of a refusal's line
-abbrev pub words : Word
-words = 35 ∷ 32 ∷ 114 ∷ 101 ∷ 102 ∷ 117 ∷ 115 ∷ 101 ∷ 100 ∷ 32 ∷ []
-
-module _ (l m n : Word) (i j k : ℕ) (s : m ≡ sets l 0 words) (p : i ≡ 0 + length words) (t : n ≡ sets m i (decimal k)) (q : j ≡ i + length (decimal k)) where
-  -- the words and the digits, stored one after the other
-  digits-written : n ≡ sets l 0 (words ++ decimal k)
-  digits-written = t ∙ ap₂ (λ (x : Word) (y : ℕ). sets x y (decimal k)) s p ∙ sets-append l 0 words (decimal k)
-
-  digits-end : j ≡ 0 + length (words ++ decimal k)
-  digits-end = omega (arith, length-append words (decimal k))
-
-  -- and an LF behind them
-  pub line-written : set n j 10 ≡ sets l 0 (refusedLine k)
-  unfolding refusedLine
-  line-written = ap₂ (λ (x : Word) (y : ℕ). set x y 10) digits-written digits-end ∙ sets-append l 0 (words ++ decimal k) (10 ∷ [])
-
-  pub line-end : j + 1 ≡ length (refusedLine k)
-  unfolding refusedLine
-  line-end = omega (arith, digits-end, length-append (words ++ decimal k) (10 ∷ []))
-
-  -- the buffer keeps its length, and has room for it all
-  pub line-fits : k < 65536 → 16 ≤ length l → j < length n
-  line-fits h f = omega (arith, at-most-five k h, ap length digits-written, length-sets l 0 (words ++ decimal k))
-
-  pub line-length : length n ≡ length l
-  line-length = ap length digits-written ∙ length-sets l 0 (words ++ decimal k)
+use Rattle.refusal_line.specs.RefusalLine.{refusedLine}
+use Rattle.refusal_line.proofs.RefusalLine.{refused-line-most}
+use Rattle.printing.specs.Printed.{identifierOf, printedFor, printed}
+use Rattle.printing.specs.Read.{Read}
 
 -- ---- a text by its length
 
@@ -113,15 +84,28 @@ module _ {text : Word} {n m : ℕ} (a : Says text n m) (l buffer : Word) (size :
         few = omega (arith, a .many, good-reading .letters .1);
       }
 
-  pub list-printed : listing plain (identifierOf n text) (take m buffer) ≡ printedFor (readFasta text) text
+  list-printed : listing plain (identifierOf n text) (take m buffer) ≡ printedFor (readFasta text) text
   unfolding printedFor
   list-printed = rw (letters-read, a .says)
 
--- ---- how many bytes are printed
+-- ---- what is written for a reading, with the buffer after it and the place behind what is written
 
-refused-line-most : (k : ℕ) → k < 65536 → length (refusedLine k) ≤ 16
-unfolding refusedLine
-refused-line-most k h = omega (arith, length-append (words ++ decimal k) (10 ∷ []), length-append words (decimal k), at-most-five k h)
+module _ (text out : Word) {out′ : Word} {r : ℕ} where
+  pub refusal-written : (k : ℕ) → Refused k ≡ readingOf (readFasta text) 1024 → out′ ≡ sets out 0 (refusedLine k) → r ≡ length (refusedLine k)
+      → (out′ ≡ sets out 0 (printedFor (readFasta text) text)) × (r ≡ length (printedFor (readFasta text) text))
+  unfolding printedFor
+  refusal-written k h e p =
+      let f : refusedLine k ≡ printedFor (readFasta text) text = rw (reading-refused text k h) in
+      (e ∙ ap (sets out 0) f, p ∙ ap length f)
+
+  pub list-written : (l buffer : Word) (n m : ℕ) → length l ≡ 1024 → Accepted n m ≡ readingOf (readFasta text) 1024 → buffer ≡ writtenTo (readFasta text) l
+      → out′ ≡ sets out 0 (listing plain (identifierOf n text) (take m buffer)) → r ≡ length (listing plain (identifierOf n text) (take m buffer))
+      → (out′ ≡ sets out 0 (printedFor (readFasta text) text)) × (r ≡ length (printedFor (readFasta text) text))
+  list-written l buffer n m size h b e p =
+      let f = list-printed (reading-accepted text n m h) l buffer size b in
+      (e ∙ ap (sets out 0) f, p ∙ ap length f)
+
+-- ---- how many bytes are printed
 
 -- at most 45 bytes for each of 1,024 letters
 pub printed-most : (text : Word) → length (printed text) ≤ 46080

@@ -1,3 +1,2 @@
--- how a record fills, and what a text's reading prints
-pub mod Filling
+-- what a text's reading prints
 pub mod Answering

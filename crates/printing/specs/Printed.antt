@@ -1,17 +1,13 @@
 -- DEFINITIONS. The bytes that the program mirrorlist prints for a text. Nothing here is proved.
 use Prim.Native.Nat.{ℕ}
 use mathlib.Core.Bool.{cond}
-use mathlib.Core.List.{[], _∷_, _++_}
 use lib.Dec.{ltb}
 use lib.ListN.{length, take, drop}
 use Rattle.palindromes.specs.Word.{Word}
 use Rattle.palindromes.specs.Palindrome.{plain}
-use Rattle.palindromes.specs.Bed.{decimal, listing}
+use Rattle.palindromes.specs.Bed.{listing}
 use Rattle.palindromes.specs.Fasta.{Fasta, refused, accepted, readFasta}
-
--- 01 "it prints only `# refused ` and the number, then LF"
-unfoldable pub refusedLine : ℕ → Word
-refusedLine n = (35 ∷ 32 ∷ 114 ∷ 101 ∷ 102 ∷ 117 ∷ 115 ∷ 101 ∷ 100 ∷ 32 ∷ []) ++ decimal n ++ (10 ∷ [])
+use Rattle.refusal_line.specs.RefusalLine.{refusedLine}
 
 -- the identifier of a text, n bytes after the `>`
 abbrev pub identifierOf : ℕ → Word → Word

@@ -1,6 +1,5 @@
 // From the bytes of a FASTA text to the bytes that mirrorlist prints: the text is read, its letters
 // are added at the right of a record of capacity 1,024, and the record's palindromes are listed.
-// The store is made here and lent to nobody, so it is not tested again at each letter.
 ghost use mathlib.Core.Path.{_≡_};
 ghost use Prim.Native.Nat.{_≤_};
 ghost use lib.ListN.{length, take};
@@ -9,13 +8,10 @@ ghost use Rattle.palindromes.specs.Palindrome.{plain};
 ghost use Rattle.palindromes.specs.Bed.{listing};
 ghost use Rattle.palindromes.specs.Fasta.{readFasta};
 ghost use Rattle.printing.specs.Printed.{identifierOf, printedFor, printed};
-ghost use Rattle.printing.specs.Filled.{Read};
+ghost use Rattle.printing.specs.Read.{Read};
 use fasta::Reading;
-use record::list_letters;
-use refusal::put_refusal;
-
-pub mod record;
-mod refusal;
+use letters_listing::list_letters;
+use refusal_line::put_refusal;
 
 // Lists the first m letters of the buffer under the identifier of n bytes that the text begins with.
 fn list_read(text: &[u8], n: usize, letters: &[u8], m: usize, out: &mut [u8]) -> usize

@@ -4,7 +4,7 @@ use borrow.Author.Needs.{needs}
 use borrow.Author.Tests.{not-true, not-false}
 use mathlib.Core.Path.{refl, sym, _∙_}
 use Rattle.palindromes.specs.Refusal.{storeSize}
-use Rattle.printing.proofs.Filling.{filled-none}
+use Rattle.filling.proofs.Filling.{filled-none}
 use Rattle.bench_fill.proofs.Filling.{store-short, too-many, no-letter, all-added}
 use Rattle.bench_fill.proofs.bench_fill.Statement.{statement}
 use Rattle.bench_fill.proofs.bench_fill.Tie as tie

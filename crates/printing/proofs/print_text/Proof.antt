@@ -2,14 +2,10 @@
 use native.Mathlib.Omega.{arith}
 use borrow.Author.Needs.{needs}
 use Prim.Native.Nat.{ℕ}
-use mathlib.Core.Path.{sym, ap, _∙_}
-use lib.ListN.{length, length-replicate}
-use lib.Seq.{sets}
-use Rattle.palindromes.specs.Word.{Word}
-use Rattle.palindromes.specs.Fasta.{Fasta}
+use mathlib.Core.Path.{sym, _∙_}
+use lib.ListN.{length-replicate}
 use Rattle.fasta.proofs.Accepted.{refusal-small}
-use Rattle.printing.specs.Printed.{printedFor}
-use Rattle.printing.proofs.Answering.{reading-refused, reading-accepted, was-read, list-printed}
+use Rattle.printing.proofs.Answering.{reading-refused, reading-accepted, was-read, refusal-written, list-written}
 use Rattle.printing.proofs.print_text.Statement.{statement}
 use Rattle.printing.proofs.print_text.Tie as tie
 
@@ -30,26 +26,22 @@ list-read-requires c κs =
     (was-read a _ _ (length-replicate {A = ℕ} 1024 0) (read .ensures .1), s .pre)
 
 returns : tie.Need-returns
-unfolding printedFor
 returns c =
-    let from-read = c .before .before .before .before .before .before .before .before in
+    let from-reading = c .before .before .before .before .before in
+    let from-read = from-reading .before .before .before in
     let s = from-read .before .before .before .before in
-    let n = c .before .before .before .before .before .reading .given .0 .0 in
-    let r = reading-refused (s .args .text .now) n (sym (c .before .before .before .before .before .reading .given .1) ∙ from-read .read .ensures .0) in
-    let p = ap (λ (f : Fasta). printedFor f (s .args .text .now)) (sym r) in
     let e = c .before .before .put-refusal .ensures in
-    (e .0 ∙ ap (λ (w : Word). sets (s .args .out .now) 0 w) p, e .1 ∙ ap length p)
+    refusal-written (s .args .text .now) (s .args .out .now) (from-reading .reading .given .0 .0) (sym (from-reading .reading .given .1) ∙ from-read .read .ensures .0) (e .0) (e .1)
 
 returns-2 : tie.Need-returns-2
 returns-2 c =
-    let from-read = c .before .before .before .before .before .before .before .before .before in
+    let from-reading = c .before .before .before .before .before .before in
+    let from-read = from-reading .before .before .before in
     let s = from-read .before .before .before .before in
-    let read = from-read .read in
-    let fields = c .before .before .before .before .before .before .reading2 .given .0 in
-    let a = reading-accepted (s .args .text .now) (fields .0) (fields .1 .0) (sym (c .before .before .before .before .before .before .reading2 .given .1) ∙ read .ensures .0) in
-    let p = list-printed a _ _ (length-replicate {A = ℕ} 1024 0) (read .ensures .1) in
+    let fields = from-reading .reading2 .given .0 in
     let e = c .before .before .list-read .ensures in
-    (e .0 ∙ ap (λ (w : Word). sets (s .args .out .now) 0 w) p, e .1 ∙ ap length p)
+    list-written (s .args .text .now) (s .args .out .now) _ _ (fields .0) (fields .1 .0) (length-replicate {A = ℕ} 1024 0)
+    (sym (from-reading .reading2 .given .1) ∙ from-read .read .ensures .0) (from-read .read .ensures .1) (e .0) (e .1)
 
 pub print-text-spec : {M : Type 1} → statement M
 print-text-spec =

@@ -1,0 +1,2 @@
+-- how a record fills
+pub mod Filling

@@ -1,0 +1,2 @@
+-- the laws of the identifiers of the crate palindromes
+pub mod Identifiers

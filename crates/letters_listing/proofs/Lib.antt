@@ -1,0 +1,2 @@
+-- what a filled record lists
+pub mod Listed

@@ -1,0 +1,2 @@
+-- how the line of a refusal is written
+pub mod RefusalLine
