@@ -1,18 +1,17 @@
-// The calls of a host in C, by the names of include/mirror.h. Each is one call of the record with its
-// side named; its promise holds for all bytes and all numbers.
+// The calls of a host in C, by the names of include/mirror.h. Each only hands on to a
+// function of the crate of its call, with the same promise, which holds for all bytes and all numbers.
 ghost use Rattle.palindromes.specs.End.{atLeft, atRight};
 ghost use mathlib.Core.List.{[]};
 ghost use Rattle.palindromes.specs.Refusal.{add, remove, theLength, theCount, theLongest, theLongestAt, theLetter, theRow, spell, find, list};
 ghost use Rattle.fasta_call.specs.Answer.{FastaPromise};
 ghost use Rattle.outcome.specs.Promise.{lending, nothing, Promise, OpeningPromise, FreeRow, Asked};
-use store::letters::Side;
 
 // Opens an empty record of the given capacity.
 #[no_mangle]
 pub extern "C" fn mirror_open(store: &mut [u8], capacity: u64) -> u64
     ensures { λ r. ⌜ OpeningPromise capacity (now (store .entry)) r (now (store .exit)) ⌝ }
 {
-    change_calls::open_record(store, capacity)
+    opening_call::open_record(store, capacity)
 }
 
 // Adds a letter at the left end.
@@ -21,7 +20,7 @@ pub extern "C" fn mirror_add_left(store: &mut [u8], letter: u64) -> u64
     ensures promise { λ r. ⌜ Promise (add atLeft letter) (now (store .entry)) nothing r (now (store .exit)) nothing ⌝ }
     ensures free { λ _. ⌜ FreeRow atLeft letter (now (store .entry)) ⌝ }
 {
-    change_calls::add_letter(store, Side::Left, letter)
+    addition_call::add_left(store, letter)
 }
 
 // Adds a letter at the right end.
@@ -30,7 +29,7 @@ pub extern "C" fn mirror_add_right(store: &mut [u8], letter: u64) -> u64
     ensures promise { λ r. ⌜ Promise (add atRight letter) (now (store .entry)) nothing r (now (store .exit)) nothing ⌝ }
     ensures free { λ _. ⌜ FreeRow atRight letter (now (store .entry)) ⌝ }
 {
-    change_calls::add_letter(store, Side::Right, letter)
+    addition_call::add_right(store, letter)
 }
 
 // Removes the letter at the left end.
@@ -38,7 +37,7 @@ pub extern "C" fn mirror_add_right(store: &mut [u8], letter: u64) -> u64
 pub extern "C" fn mirror_remove_left(store: &mut [u8]) -> u64
     ensures { λ r. ⌜ Promise (remove atLeft) (now (store .entry)) nothing r (now (store .exit)) nothing ⌝ }
 {
-    change_calls::remove_letter(store, Side::Left)
+    removal_call::remove_left(store)
 }
 
 // Removes the letter at the right end.
@@ -46,7 +45,7 @@ pub extern "C" fn mirror_remove_left(store: &mut [u8]) -> u64
 pub extern "C" fn mirror_remove_right(store: &mut [u8]) -> u64
     ensures { λ r. ⌜ Promise (remove atRight) (now (store .entry)) nothing r (now (store .exit)) nothing ⌝ }
 {
-    change_calls::remove_letter(store, Side::Right)
+    removal_call::remove_right(store)
 }
 
 // How many letters stand.
@@ -78,7 +77,7 @@ pub extern "C" fn mirror_longest(store: &[u8]) -> u64
 pub extern "C" fn mirror_longest_left(store: &[u8]) -> u64
     ensures { λ r. ⌜ Asked (theLongestAt atLeft) (now (store .entry)) nothing r nothing ⌝ }
 {
-    longest_calls::longest_at(store, Side::Left)
+    longest_calls::longest_left(store)
 }
 
 // The longest repeat at the right end: its row, and whether it stands once only.
@@ -86,7 +85,7 @@ pub extern "C" fn mirror_longest_left(store: &[u8]) -> u64
 pub extern "C" fn mirror_longest_right(store: &[u8]) -> u64
     ensures { λ r. ⌜ Asked (theLongestAt atRight) (now (store .entry)) nothing r nothing ⌝ }
 {
-    longest_calls::longest_at(store, Side::Right)
+    longest_calls::longest_right(store)
 }
 
 // The letter at a place.

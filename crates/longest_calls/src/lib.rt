@@ -1,5 +1,6 @@
 // The host's questions about the longest repeat, of all or at an end. Each tests its store, asks nothing
 // of the caller, and changes no byte.
+ghost use Rattle.palindromes.specs.End.{atLeft, atRight};
 ghost use Rattle.palindromes.specs.Refusal.{ask, theLongest, theLongestAt};
 ghost use Rattle.store.specs.Side.{endOf};
 ghost use Rattle.outcome.specs.Promise.{nothing, Asked};
@@ -37,7 +38,7 @@ pub fn longest_repeat(store: &[u8]) -> u64
 }
 
 // The row of the longest repeat at a side, and whether it stands once only.
-pub fn longest_at(store: &[u8], side: Side) -> u64
+fn longest_at(store: &[u8], side: Side) -> u64
     ensures { λ r. ⌜ Asked (theLongestAt (endOf side)) (now (store .entry)) nothing r nothing ⌝ }
 {
     let number = judge_longest(store);
@@ -46,4 +47,18 @@ pub fn longest_at(store: &[u8], side: Side) -> u64
     }
     let found = ends::longest_at(store, side);
     pack(found.once, found.row, 0, 0)
+}
+
+// The longest repeat at the left end: its row, and whether it stands once only.
+pub fn longest_left(store: &[u8]) -> u64
+    ensures { λ r. ⌜ Asked (theLongestAt atLeft) (now (store .entry)) nothing r nothing ⌝ }
+{
+    longest_at(store, Side::Left)
+}
+
+// The longest repeat at the right end: its row, and whether it stands once only.
+pub fn longest_right(store: &[u8]) -> u64
+    ensures { λ r. ⌜ Asked (theLongestAt atRight) (now (store .entry)) nothing r nothing ⌝ }
+{
+    longest_at(store, Side::Right)
 }

@@ -1,0 +1,2 @@
+-- what an addition promises, on plain values
+pub mod Adding

@@ -1,0 +1,73 @@
+// The host's calls that add a letter, at either end. Each tests its store and its letter, asks nothing
+// of the caller, and leaves every byte as the outcome of the call says.
+ghost use mathlib.Core.Path.{_≡_};
+ghost use Rattle.palindromes.specs.Word.{isLetter};
+ghost use Rattle.palindromes.specs.End.{atLeft, atRight};
+ghost use Rattle.palindromes.specs.Refusal.{add};
+ghost use Rattle.store.specs.Side.{endOf};
+ghost use Rattle.outcome.specs.Promise.{nothing, Promise, FreeRow};
+ghost use Rattle.outcome.specs.Verdict.{Verdict};
+use outcome::answers;
+use outcome::refuse;
+use store::header;
+use store::letters::Side;
+
+// Whether a host's number is one of the four letters.
+fn is_letter(c: u64) -> bool
+    ensures { λ r. ⌜ r ≡ isLetter c ⌝ }
+{
+    if c == 65 {
+        return true;
+    }
+    if c == 67 {
+        return true;
+    }
+    if c == 71 {
+        return true;
+    }
+    c == 84
+}
+
+// The refusal number of an addition, 0 where it can be carried out.
+fn judge_add(store: &[u8], side: Side, letter: u64) -> u64
+    ensures { λ n. ⌜ Verdict (add (endOf side) letter) (now (store .entry)) nothing n ⌝ }
+{
+    if !audit::is_good(store) {
+        return 3;
+    }
+    if !is_letter(letter) {
+        return 4;
+    }
+    if header::capacity(store) <= header::size(store) {
+        return 5;
+    }
+    0
+}
+
+// Adds a letter at a side: 1 and the new row, or 0 and row 0.
+fn add_letter(store: &mut [u8], side: Side, letter: u64) -> u64
+    ensures promise { λ r. ⌜ Promise (add (endOf side) letter) (now (store .entry)) nothing r (now (store .exit)) nothing ⌝ }
+    ensures free { λ _. ⌜ FreeRow (endOf side) letter (now (store .entry)) ⌝ }
+{
+    let number = judge_add(store, side, letter);
+    if number != 0 {
+        return refuse(number);
+    }
+    answers::answer_added(addition::add(store, side, letter as u8))
+}
+
+// Adds a letter at the left end.
+pub fn add_left(store: &mut [u8], letter: u64) -> u64
+    ensures promise { λ r. ⌜ Promise (add atLeft letter) (now (store .entry)) nothing r (now (store .exit)) nothing ⌝ }
+    ensures free { λ _. ⌜ FreeRow atLeft letter (now (store .entry)) ⌝ }
+{
+    add_letter(store, Side::Left, letter)
+}
+
+// Adds a letter at the right end.
+pub fn add_right(store: &mut [u8], letter: u64) -> u64
+    ensures promise { λ r. ⌜ Promise (add atRight letter) (now (store .entry)) nothing r (now (store .exit)) nothing ⌝ }
+    ensures free { λ _. ⌜ FreeRow atRight letter (now (store .entry)) ⌝ }
+{
+    add_letter(store, Side::Right, letter)
+}

@@ -1,0 +1,2 @@
+-- what an opening promises, on plain values
+pub mod Opening

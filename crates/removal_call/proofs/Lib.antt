@@ -1,0 +1,2 @@
+-- what a removal promises, on plain values
+pub mod Removing
