@@ -1,2 +1,2 @@
--- what a text's reading prints
+-- what a text prints by its length, and how many bytes
 pub mod Answering

@@ -1,2 +1,1 @@
 pub mod Printed
-pub mod Read

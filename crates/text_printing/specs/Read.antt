@@ -5,7 +5,7 @@ use mathlib.Core.Bool.{true}
 use lib.ListN.{length, take}
 use Rattle.palindromes.specs.Word.{Word, allLetters}
 use Rattle.palindromes.specs.Bed.{isIdentifier}
-use Rattle.printing.specs.Printed.{identifierOf}
+use Rattle.text_printing.specs.PrintedFor.{identifierOf}
 
 -- what a text that was read says: an identifier of n bytes stands after the text's first byte, and m letters at the front of the buffer
 pub record Read (text : Word) (n : ℕ) (buffer : Word) (m : ℕ) : Type 0 where

@@ -1,4 +1,4 @@
--- `printing::list_read` lists the letters that it is told of, under the identifier that it is told of. Assumes nothing.
+-- `text_printing::list_read` lists the letters that it is told of, under the identifier that it is told of. Assumes nothing.
 use Prim.Native.Nat.{ℕ, _+_, _-_}
 use native.Mathlib.Omega.{arith}
 use borrow.Author.Needs.{needs}
@@ -8,9 +8,9 @@ use lib.Seq.{sets, length-take-le}
 use Rattle.palindromes.specs.Word.{Word}
 use Rattle.palindromes.specs.Palindrome.{plain}
 use Rattle.palindromes.specs.Bed.{listing}
-use Rattle.printing.specs.Printed.{identifierOf}
-use Rattle.printing.proofs.list_read.Statement.{statement}
-use Rattle.printing.proofs.list_read.Tie as tie
+use Rattle.text_printing.specs.PrintedFor.{identifierOf}
+use Rattle.text_printing.proofs.list_read.Statement.{statement}
+use Rattle.text_printing.proofs.list_read.Tie as tie
 
 -- the part of the text that begins after its first byte and ends n bytes later
 part-length : (n : ℕ) → 1 + n - 1 ≡ n

@@ -1,13 +1,13 @@
--- `printing::print_text` prints the refusal of a text, or the list of its letters. Assumes nothing.
+-- `text_printing::print_text` prints the refusal of a text, or the list of its letters. Assumes nothing.
 use native.Mathlib.Omega.{arith}
 use borrow.Author.Needs.{needs}
 use Prim.Native.Nat.{ℕ}
 use mathlib.Core.Path.{sym, _∙_}
 use lib.ListN.{length-replicate}
 use Rattle.fasta.proofs.Accepted.{refusal-small}
-use Rattle.printing.proofs.Answering.{reading-refused, reading-accepted, was-read, refusal-written, list-written}
-use Rattle.printing.proofs.print_text.Statement.{statement}
-use Rattle.printing.proofs.print_text.Tie as tie
+use Rattle.text_printing.proofs.Answering.{reading-refused, reading-accepted, was-read, refusal-written, list-written}
+use Rattle.text_printing.proofs.print_text.Statement.{statement}
+use Rattle.text_printing.proofs.print_text.Tie as tie
 
 put-refusal-requires : tie.Need-put-refusal-requires
 put-refusal-requires c κs =

@@ -1,0 +1,2 @@
+-- what a text's reading prints
+pub mod Answering

@@ -1,0 +1,2 @@
+pub mod PrintedFor
+pub mod Read
