@@ -1,6 +1,6 @@
 -- What is printed: what a text prints by its length, and how many bytes at most.
 -- Rests on what an accepted text says (`fasta`) and on how long a list is (`bed`). Assumes nothing.
-use Prim.Native.Nat.{ℕ, _≤_, _<_}
+use Prim.Native.Nat.{_≤_, _<_}
 use native.Mathlib.Omega.{arith}
 use mathlib.Core.Path.{_≡_, refl}
 use mathlib.Core.Bool.{Bool, true, false, cond}
