@@ -33,6 +33,10 @@ use Rattle.outcome.proofs.Told.{told}
 use Rattle.outcome.proofs.Refusals.{find-accepted, row-accepted, row-free, spell-free, carried-out, refused-out}
 use Rattle.traces.proofs.State.{State, rule-is}
 
+-- DEMAND 2. The table of a good store is the eertree of its letters
+pub good-eertree : {b : Word} → Good b → IsEertree (ruleOf b) (lettersIn b) (tableIn b) (nodeIn b)
+good-eertree g = is-eertree (g .table)
+
 -- the nodes that a palindrome links to and holds inside are nodes of the same record
 pub link-node : (m : ℕ) (w : Word) {s : Word} → Palindrome (ruleIn m) w → Stands w s → NodeOf (ruleIn m) s (linkOf (ruleIn m) (spelt w))
 unfolding linkOf
@@ -152,5 +156,5 @@ module _ (m k : ℕ) (s : Word) (row : Word → ℕ) (b : Word) (st : State m k 
         capacity = st .capacity;
         reading = st .reading;
         letters = st .letters;
-        table = subst₂ (λ (σ : ℕ → ℕ) (t : Word). IsEertree σ t (tableIn b) (nodeIn b)) (rule-is st) (st .letters) (is-eertree (good .table));
+        table = subst₂ (λ (σ : ℕ → ℕ) (t : Word). IsEertree σ t (tableIn b) (nodeIn b)) (rule-is st) (st .letters) (good-eertree good);
       }
