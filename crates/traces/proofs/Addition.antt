@@ -23,7 +23,7 @@ use Rattle.store.proofs.Sizes.{rule-inverse}
 use Rattle.transitions.specs.Rows.{rowOf, freeRow}
 use Rattle.transitions.specs.Addition.{longestAfter, bringsIn, rowAfter as rowAfterAddition, afterAddition}
 use Rattle.transitions.proofs.Rows.{row-of, row-of-node}
-use Rattle.transitions.proofs.Added as Updates·Added
+use Rattle.transitions.proofs.Added as Transitions·Added
 use Rattle.transitions.proofs.Added.{addition}
 use Rattle.outcome.specs.Reply.{Reply, refusedWith, accepted}
 use Rattle.outcome.specs.Outcome.{Lent, Outcome, outcome, acceptedOutcome, refusedOutcome, changed}
@@ -99,7 +99,7 @@ module _ (m k : ℕ) (s : Word) (row : Word → ℕ) (b : Word) (st : State m k 
         go true = refl
         go false = refl
 
-    pub facts : room ≡ true → Updates·Added.Added e c b
+    pub facts : room ≡ true → Transitions·Added.Added e c b
     facts h =
         let g = both-true (isLetter c) (ltb (length s) k) h in
         addition e good (g .0) (omega (arith, ltb-true (length s) k (g .1), st .capacity, (size-is st)))
@@ -117,7 +117,7 @@ module _ (m k : ℕ) (s : Word) (row : Word → ℕ) (b : Word) (st : State m k 
     unfolding rowStep accepted
     rows-after h w p there = ⊎-elim old new (stands-or-not w s)
       where
-        f : Updates·Added.Added e c b
+        f : Transitions·Added.Added e c b
         f = facts h
 
         old : Stands w s → rowStep m s (add e c) (o .reply) row w ≡ rowOf (afterAddition e c b) (spelt w)

@@ -1,6 +1,6 @@
--- A list of calls that meets the hypotheses of `every-list`, and each claim drawn from it once. A store of 400 sevens is opened for three letters; A joins the right end and C the
--- left one; an opening for no letters and the letter N are refused; C is looked for and row 2 is asked; C joins the right end, which makes CAC; A is refused, since the record is
--- full; and the letter at the right goes. Each call comes to its outcome by the definitions.
+-- A list of calls that meets the hypotheses of `every-list`, and each claim drawn from it once. A store of 400 sevens is opened for three letters; G joins the left
+-- end and leaves it; A joins the right end and C the left one; an opening for no letters and the letter N are refused; C is looked for and row 2 is asked; C joins the
+-- right end, which makes CAC; A is refused, since the record is full; and the letter at the right goes. Each call comes to its outcome by the definitions.
 use Prim.Native.Nat.{ℕ, zero, suc, _≤_, _<_}
 use native.Mathlib.Omega.{arith}
 use mathlib.Core.Path.{_≡_, refl, sym, ap, _∙_}
@@ -12,7 +12,7 @@ use Rattle.palindromes.specs.Word.{Word, isLetter, allLetters, sameWord}
 use Rattle.palindromes.specs.Palindrome.{mirror, isSymmetric, Palindrome}
 use Rattle.palindromes.specs.Place.{Stands, startsWith, placesFrom, places, frequency, stands, standsOnce}
 use Rattle.palindromes.specs.Record.{longestSuffix}
-use Rattle.palindromes.specs.End.{atLeft, atRight, added, removed, withoutLast, longestAt}
+use Rattle.palindromes.specs.End.{atLeft, atRight, added, removed, withoutFirst, withoutLast, longestAt}
 use Rattle.palindromes.specs.Node.{linkOf, innerOf}
 use Rattle.palindromes.specs.Refusal.{theRow, spell, find, Call, opening, add, remove, ask, storeSize, refusal}
 use Rattle.palindromes.proofs.Tests.{false-not-true}
@@ -71,8 +71,14 @@ start = opened .store
 abbrev more : List Step → Call → List Step
 more xs call = stepOf call (storeAfter start xs) nothing ∷ xs
 
+pub with-G : List Step
+with-G = more [] (add atLeft 71)
+
+pub G-gone : List Step
+G-gone = more with-G (remove atLeft)
+
 pub with-A : List Step
-with-A = more [] (add atRight 65)
+with-A = more G-gone (add atRight 65)
 
 pub with-CA : List Step
 with-CA = more with-A (add atLeft 67)
@@ -106,8 +112,8 @@ one-more : {xs : List Step} → Run start xs → (call : Call) → MayStand call
 one-more r call h = goes-on 3 sevens all-bytes (packed (opened .reply)) start promise answers-zero r call nothing h
 
 run-to-CA : Run start with-CA
-unfolding with-CA with-A
-run-to-CA = one-more (one-more begun (add atRight 65) tt) (add atLeft 67) tt
+unfolding with-CA with-A G-gone with-G
+run-to-CA = let emptied = one-more (one-more begun (add atLeft 71) tt) (remove atLeft) tt in one-more (one-more emptied (add atRight 65) tt) (add atLeft 67) tt
 
 run-to-row : Run start row-asked
 unfolding row-asked C-sought N-tried opening-tried
@@ -125,7 +131,7 @@ its-claims = every-list 3 sevens all-bytes (packed (opened .reply)) start promis
 -- ---- the letters, from the arguments alone
 
 before-CAC : lettersAfter 3 row-asked ≡ 67 ∷ 65 ∷ []
-unfolding row-asked C-sought N-tried opening-tried with-CA with-A lettersAfter lettersStep added isLetter
+unfolding row-asked C-sought N-tried opening-tried with-CA with-A G-gone with-G lettersAfter lettersStep added removed withoutFirst isLetter
 before-CAC = refl
 
 in-CAC : lettersAfter 3 with-CAC ≡ 67 ∷ 65 ∷ 67 ∷ []
@@ -202,7 +208,11 @@ five-unspelt = its-claims .table .no-spelling 5 (omega arith) row-five
 abbrev answered : List Step → Call → ℕ
 answered xs call = stepOf call (storeAfter start xs) nothing .answer
 
-of-removal : Called 0 3 (lettersAfter 3 A-tried) (λ w. rowAfter 0 3 A-tried w) (λ w. rowAfter 0 3 calls w) (storeAfter start A-tried) (stepOf (remove atRight) (storeAfter start A-tried) nothing)
+-- what is claimed of a call that comes after the list
+abbrev ClaimedOf : List Step → Call → Type 0
+ClaimedOf xs call = Called 0 3 (lettersAfter 3 xs) (λ w. rowAfter 0 3 xs w) (λ w. rowAfter 0 3 (more xs call) w) (storeAfter start xs) (stepOf call (storeAfter start xs) nothing)
+
+of-removal : ClaimedOf A-tried (remove atRight)
 unfolding EachCall calls
 of-removal = its-claims .each .0
 
@@ -221,33 +231,30 @@ pub C-kept : Kept (67 ∷ []) (λ w. rowAfter 0 3 A-tried w) (λ w. rowAfter 0 3
 unfolding calls lettersAfter
 C-kept = of-removal .kept (67 ∷ []) (letter 67) C-stood C-stands
 
--- the letter that does not fit is refused, N with 4 and the opening for no letters with 1, and each leaves the store
-abbrev earlier : List Step → Type 0
-earlier xs = EachCall 0 3 start xs
-
-each-to-row : earlier row-asked
-unfolding EachCall calls A-tried with-CAC
-each-to-row = its-claims .each .1 .1 .1
-
-of-addition : Called 0 3 (lettersAfter 3 row-asked) (λ w. rowAfter 0 3 row-asked w) (λ w. rowAfter 0 3 with-CAC w) (storeAfter start row-asked) (stepOf (add atRight 67) (storeAfter start row-asked) nothing)
-unfolding EachCall calls A-tried with-CAC
-of-addition = its-claims .each .1 .1 .0
-
-of-refused-A : Called 0 3 (lettersAfter 3 with-CAC) (λ w. rowAfter 0 3 with-CAC w) (λ w. rowAfter 0 3 A-tried w) (storeAfter start with-CAC) (stepOf (add atLeft 65) (storeAfter start with-CAC) nothing)
+-- the calls before it, last first
+of-refused-A : ClaimedOf with-CAC (add atLeft 65)
 unfolding EachCall calls A-tried
 of-refused-A = its-claims .each .1 .0
 
-of-refused-N : Called 0 3 (lettersAfter 3 opening-tried) (λ w. rowAfter 0 3 opening-tried w) (λ w. rowAfter 0 3 N-tried w) (storeAfter start opening-tried) (stepOf (add atRight 78) (storeAfter start opening-tried) nothing)
+of-addition : ClaimedOf row-asked (add atRight 67)
+unfolding EachCall calls A-tried with-CAC
+of-addition = its-claims .each .1 .1 .0
+
+each-to-row : EachCall 0 3 start row-asked
+unfolding EachCall calls A-tried with-CAC
+each-to-row = its-claims .each .1 .1 .1
+
+of-question : ClaimedOf N-tried (ask (find (67 ∷ [])))
+unfolding EachCall row-asked C-sought
+of-question = each-to-row .1 .0
+
+of-refused-N : ClaimedOf opening-tried (add atRight 78)
 unfolding EachCall row-asked C-sought N-tried
 of-refused-N = each-to-row .1 .1 .0
 
-of-refused-opening : Called 0 3 (lettersAfter 3 with-CA) (λ w. rowAfter 0 3 with-CA w) (λ w. rowAfter 0 3 opening-tried w) (storeAfter start with-CA) (stepOf (opening 0) (storeAfter start with-CA) nothing)
+of-refused-opening : ClaimedOf with-CA (opening 0)
 unfolding EachCall row-asked C-sought N-tried opening-tried
 of-refused-opening = each-to-row .1 .1 .1 .0
-
-of-question : Called 0 3 (lettersAfter 3 N-tried) (λ w. rowAfter 0 3 N-tried w) (λ w. rowAfter 0 3 C-sought w) (storeAfter start N-tried) (stepOf (ask (find (67 ∷ []))) (storeAfter start N-tried) nothing)
-unfolding EachCall row-asked C-sought
-of-question = each-to-row .1 .0
 
 -- the addition brings in CAC, which stood nowhere before
 pub CAC-came : unpacked (answered row-asked (add atRight 67)) .flag ≡ true
@@ -263,6 +270,7 @@ A-refused z =
     let no : (isLetter 65 && ltb (length (lettersAfter 3 with-CAC)) 3) ≡ false = rw in-CAC refl in
     false-not-true no (of-refused-A .addition atLeft 65 refl .only-if z)
 
+-- N is refused with 4 and the opening for no letters with 1, and what is refused leaves the store
 pub N-answers-four : refusalIn (answered opening-tried (add atRight 78)) ≡ 4
 unfolding isLetter
 N-answers-four = of-refused-N .number-is ∙ add-letter (storeAfter start opening-tried) nothing atRight 78 refl

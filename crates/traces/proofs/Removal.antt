@@ -24,7 +24,7 @@ use Rattle.store.proofs.Sizes.{rule-inverse}
 use Rattle.transitions.specs.Rows.{rowOf}
 use Rattle.transitions.specs.Removal.{longestBefore, takesOut, afterRemoval}
 use Rattle.transitions.proofs.Rows.{row-of, row-of-node}
-use Rattle.transitions.proofs.Removed as Updates·Removed
+use Rattle.transitions.proofs.Removed as Transitions·Removed
 use Rattle.transitions.proofs.Removed.{removal}
 use Rattle.outcome.specs.Reply.{Reply, refusedWith, accepted}
 use Rattle.outcome.specs.Outcome.{Lent, Outcome, outcome, acceptedOutcome, refusedOutcome, changed}
@@ -36,7 +36,7 @@ use Rattle.traces.proofs.Shared.{moved, number-zero, zero-first}
 use Rattle.palindromes.proofs.Answers.{once-only}
 
 -- a row that is used after a removal was used before it, for the same repeat
-kept-before : (e : End) (b : Word) → Updates·Removed.Removed e b → (r : ℕ) → usedIn (afterRemoval e b) r ≡ true → (usedIn b r ≡ true) × (nodeIn (afterRemoval e b) r ≡ nodeIn b r)
+kept-before : (e : End) (b : Word) → Transitions·Removed.Removed e b → (r : ℕ) → usedIn (afterRemoval e b) r ≡ true → (usedIn b r ≡ true) × (nodeIn (afterRemoval e b) r ≡ nodeIn b r)
 kept-before e b f r u =
     (sym (f .other-row r (λ t q. false-not-true (f .gone-row t) (subst (λ (x : ℕ). usedIn (afterRemoval e b) x ≡ true) q u))) ∙ u, f .nodes r u)
 
@@ -72,7 +72,7 @@ module _ (m k : ℕ) (s : Word) (row : Word → ℕ) (b : Word) (st : State m k 
     unfolding takesOut
     takes-is = ap₂ (λ (x t : Word). not (stands x (removed e t))) before-is (st .letters)
 
-    removed-facts : (s ≡ [] → ⊥) → Updates·Removed.Removed e b
+    removed-facts : (s ≡ [] → ⊥) → Transitions·Removed.Removed e b
     removed-facts h = removal e good (omega (arith, (size-is st), not-empty-length s h))
 
     remove-reply : (s ≡ [] → ⊥) → o .reply ≡ accepted (takesOut e b) (cond (takesOut e b) (rowOf b (spelt u)) 0) (letterAt e s) 0

@@ -18,7 +18,7 @@ use Rattle.transitions.specs.Rows.{rowOf, freeRow}
 use Rattle.transitions.specs.Addition.{longestAfter, bringsIn, afterAddition}
 use Rattle.transitions.specs.Removal.{longestBefore, takesOut, afterRemoval}
 use Rattle.transitions.proofs.Rows.{row-of}
-use Rattle.transitions.proofs.Added as Updates·Added
+use Rattle.transitions.proofs.Added as Transitions·Added
 use Rattle.transitions.proofs.Undone.{undone, takes-back}
 use Rattle.outcome.specs.Reply.{Reply, accepted}
 use Rattle.outcome.specs.Outcome.{Lent, Outcome, outcome, acceptedOutcome, changed}
@@ -50,7 +50,7 @@ module _ (m k : ℕ) (s : Word) (row : Word → ℕ) (b : Word) (st : State m k 
     in-room : room m k s row b st e c l ≡ true
     in-room = roomy
 
-    made : Updates·Added.Added e c b
+    made : Transitions·Added.Added e c b
     made = facts m k s row b st e c l in-room
 
     stored : o .store ≡ afterAddition e c b
