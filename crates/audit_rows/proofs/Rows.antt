@@ -1,19 +1,16 @@
--- The rows once the tour is over. What is asked of a row goes by cases, and each case of the row's test decides it; what is asked of its edges is asked of the four letters. In a good store every row
+-- The rows once the tour is over. What is asked of a row goes by cases, and each case of the row's test decides it. In a good store every row
 -- passes, and so do the header's numbers: a row in use holds a palindrome of the letters, the tour met a row that holds it, and there is only one.
 -- Rests on the laws of a good store and of the rows met (`Toured`).
 use Prim.Native.Nat.{ℕ}
 use native.Mathlib.Omega.{arith}
 use mathlib.Core.Path.{_≡_, refl, sym, _∙_, subst}
-use mathlib.Core.Bool.{Bool, true, false, _||_}
+use mathlib.Core.Bool.{Bool, true, false}
 use mathlib.Core.Logic.{⊎-elim}
-use lib.Dec.{eqb}
-use borrow.Author.Tests.{eqb-true}
 use Rattle.palindromes.specs.Word.{Word, isLetter, member}
 use Rattle.palindromes.specs.Record.{palindromes}
 use Rattle.palindromes.specs.End.{atLeft, atRight, longestAt}
 use Rattle.palindromes.specs.Node.{Node, imaginary, spelt, around}
 use Rattle.palindromes.proofs.Tests.{false-not-true, decided}
-use Rattle.palindromes.proofs.Lists.{either-true}
 use Rattle.eertree.specs.Covers.{NodeOf}
 use Rattle.eertree.proofs.Rows.{imaginary-row}
 use Rattle.store.specs.Layout.{endRow, edgeIn, usedIn, lettersIn}
@@ -26,22 +23,6 @@ use Rattle.audit_tour.specs.declared.Tour.{Tour}
 use Rattle.audit_fixed.proofs.Decided.{carried}
 use Rattle.audit_tour.proofs.Marks.{met-root}
 use Rattle.audit_edge.proofs.Edge.{good-names}
-
--- ---- letters
-
--- what holds of each of the four letters holds of every letter
-pub letter-cases : (P : ℕ → Type 0) → P 65 → P 67 → P 71 → P 84 → (x : ℕ) → isLetter x ≡ true → P x
-unfolding isLetter
-letter-cases P a c g t x h = ⊎-elim acg (λ e. is 84 e t) (either-true (eqb x 65 || eqb x 67 || eqb x 71) (eqb x 84) h)
-  where
-    is : (y : ℕ) → eqb x y ≡ true → P y → P x
-    is y e p = subst P (sym (eqb-true x y e)) p
-
-    ac : (eqb x 65 || eqb x 67) ≡ true → P x
-    ac k = ⊎-elim (λ e. is 65 e a) (λ e. is 67 e c) (either-true (eqb x 65) (eqb x 67) k)
-
-    acg : (eqb x 65 || eqb x 67 || eqb x 71) ≡ true → P x
-    acg k = ⊎-elim ac (λ e. is 71 e g) (either-true (eqb x 65 || eqb x 67) (eqb x 71) k)
 
 -- ---- the cases of a row
 

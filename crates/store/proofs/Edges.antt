@@ -3,10 +3,10 @@
 use Prim.Native.Nat.{ℕ, _≤_, _<_}
 use native.Mathlib.Omega.{arith}
 use mathlib.Core.Path.{_≡_, refl, sym, ap, _∙_}
-use mathlib.Core.Bool.{Bool, true, false, cond, _||_, true≢false}
+use mathlib.Core.Bool.{Bool, true, false, cond}
 use lib.Dec.{eqb}
-use borrow.Author.Tests.{eqb-true}
 use Rattle.palindromes.specs.Word.{isLetter}
+use Rattle.palindromes.proofs.Letters.{letter-cases}
 use Rattle.store.specs.Layout.{edgeCell}
 
 -- ---- where they are
@@ -36,16 +36,8 @@ abbrev edgeLetter : ℕ → ℕ
 edgeLetter f = cond (eqb f 4) 65 (cond (eqb f 5) 67 (cond (eqb f 6) 71 84))
 
 edge-letter : (c : ℕ) → isLetter c ≡ true → edgeLetter (edgeCell c) ≡ c
-unfolding edgeCell isLetter
-edge-letter c h = of (eqb c 65) (eqb c 67) (eqb c 71) (eqb c 84) refl refl refl refl h
-  where
-    of : (s t u v : Bool) → eqb c 65 ≡ s → eqb c 67 ≡ t → eqb c 71 ≡ u → eqb c 84 ≡ v → (s || t || u || v) ≡ true
-        → edgeLetter (cond s 4 (cond t 5 (cond u 6 7))) ≡ c
-    of true t u v e e₁ e₂ e₃ h = sym (eqb-true c 65 e)
-    of false true u v e e₁ e₂ e₃ h = sym (eqb-true c 67 e₁)
-    of false false true v e e₁ e₂ e₃ h = sym (eqb-true c 71 e₂)
-    of false false false true e e₁ e₂ e₃ h = sym (eqb-true c 84 e₃)
-    of false false false false e e₁ e₂ e₃ h = absurd (true≢false (sym h))
+unfolding edgeCell
+edge-letter = letter-cases (λ x. edgeLetter (edgeCell x) ≡ x) refl refl refl refl
 
 -- two letters with one cell are one letter
 pub edge-same : (c d : ℕ) → isLetter c ≡ true → isLetter d ≡ true → edgeCell c ≡ edgeCell d → c ≡ d

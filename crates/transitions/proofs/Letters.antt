@@ -3,28 +3,18 @@
 use Prim.Native.Nat.{ℕ, _<_}
 use native.Mathlib.Omega.{arith}
 use mathlib.Core.Path.{_≡_, refl}
-use mathlib.Core.Bool.{true, _&&_, _||_, and-assoc, and-comm, and-true}
-use mathlib.Core.Logic.{⊎-elim}
+use mathlib.Core.Bool.{true, _&&_, and-assoc, and-comm, and-true}
 use mathlib.Core.List.{[], _∷_, _++_}
-use lib.Dec.{eqb}
-use borrow.Author.Tests.{eqb-true}
 use Rattle.palindromes.specs.Word.{Word, isLetter, allLetters}
 use Rattle.palindromes.specs.Place.{Stands}
 use Rattle.palindromes.specs.End.{End, atLeft, atRight, added, removed, letterAt}
 use Rattle.palindromes.proofs.Tests.{both-true}
-use Rattle.palindromes.proofs.Lists.{either-true}
+use Rattle.palindromes.proofs.Letters.{letter-cases}
 use Rattle.palindromes.proofs.Words.{added-removed}
 
 -- a letter is a byte
 pub letter-byte : (c : ℕ) → isLetter c ≡ true → c < 256
-unfolding isLetter
-letter-byte c h = ⊎-elim acg (λ e. omega (arith, eqb-true c 84 e)) (either-true (eqb c 65 || eqb c 67 || eqb c 71) (eqb c 84) h)
-  where
-    ac : (eqb c 65 || eqb c 67) ≡ true → c < 256
-    ac k = ⊎-elim (λ e. omega (arith, eqb-true c 65 e)) (λ e. omega (arith, eqb-true c 67 e)) (either-true (eqb c 65) (eqb c 67) k)
-
-    acg : (eqb c 65 || eqb c 67 || eqb c 71) ≡ true → c < 256
-    acg k = ⊎-elim ac (λ e. omega (arith, eqb-true c 71 e)) (either-true (eqb c 65 || eqb c 67) (eqb c 71) k)
+letter-byte = letter-cases (λ x. x < 256) (omega arith) (omega arith) (omega arith) (omega arith)
 
 -- two words joined are of letters exactly if both are
 pub letters-append : (u v : Word) → allLetters (u ++ v) ≡ (allLetters u && allLetters v)

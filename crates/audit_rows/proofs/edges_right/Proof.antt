@@ -1,9 +1,9 @@
 -- `audit_rows::edges_right` decides whether each of the four edges of a row is right. Assumes nothing.
 use mathlib.Core.Path.{refl}
 use Rattle.palindromes.specs.Word.{isLetter}
+use Rattle.palindromes.proofs.Letters.{letter-cases}
 use Rattle.audit_rows.specs.Rows.{EdgeRight}
 use Rattle.audit_fixed.proofs.Decided.{holds, fails}
-use Rattle.audit_rows.proofs.Rows.{letter-cases}
 use Rattle.audit_rows.proofs.edges_right.Statement.{statement}
 use Rattle.audit_rows.proofs.edges_right.Tie as tie
 
