@@ -11,7 +11,7 @@ use lib.Seq.{length-take-le}
 use borrow.Author.Tests.{leb-true}
 use Rattle.palindromes.specs.Word.{Word, isLetter, allLetters}
 use Rattle.palindromes.specs.Bed.{isIdentifierByte, allIdentifierBytes, isIdentifier}
-use Rattle.palindromes.specs.Fasta.{refused, accepted, identifierLength, endsIdentifier, goodFirstLine, afterFirstLine, Kind, secondHeader, lineEnd, beforeLf, letter, other, kindOf, Body, fault, letters, withLetter, readByte, readLines, withIdentifier, readFasta}
+use Rattle.palindromes.specs.Fasta.{refused, accepted, identifierLength, endsIdentifier, goodFirstLine, afterFirstLine, upper, Kind, secondHeader, lineEnd, beforeLf, letter, other, kindOf, Body, fault, letters, withLetter, readByte, readLines, withIdentifier, readFasta}
 use Rattle.palindromes.proofs.Tests.{both-true}
 use Rattle.fasta_later_lines.proofs.LaterLines.{letter-kind}
 use Rattle.fasta_later_lines.proofs.Writing.{no-fault}
@@ -69,7 +69,7 @@ lines-within : (t : Word) (start : Bool) (room : ℕ) (w : Word) → readLines t
 unfolding readLines allLetters
 lines-within [] start room w e = rw (sym (same-letters [] w e)) (refl, omega arith)
 lines-within (b ∷ t) start room w e =
-    byte-within (kindOf start b t) start room b (λ s left. readLines t s left) w (letter-kind start b t) (λ s left u f. lines-within t s left u f) e
+    byte-within (kindOf start (upper b) t) start room (upper b) (λ s left. readLines t s left) w (letter-kind start b t) (λ s left u f. lines-within t s left u f) e
 
 -- ---- the text
 
@@ -79,7 +79,7 @@ pub record Accepts (text : Word) (n : ℕ) (w : Word) : Type 0 where
   pub fits : n + 1 ≤ length text
   pub letters : Within 1024 w
 
-no-refusal : (k n : ℕ) (w : Word) → refused k ≡ accepted n w → ⊥
+pub no-refusal : (k n : ℕ) (w : Word) → refused k ≡ accepted n w → ⊥
 no-refusal k n w e = let z : _≡_ {A = ℕ} 0 1 = cc in omega arith
 
 -- a good first line has an identifier of at most 32 bytes
@@ -141,7 +141,7 @@ byte-fault other start room b next n h e = let z : 4 ≡ n = cc in omega arith
 lines-fault : (t : Word) (start : Bool) (room n : ℕ) → readLines t start room ≡ fault n → n ≤ 11
 unfolding readLines
 lines-fault [] start room n e = absurd (no-fault n [] (sym e))
-lines-fault (b ∷ t) start room n e = byte-fault (kindOf start b t) start room b (λ s left. readLines t s left) n (λ s left m f. lines-fault t s left m f) e
+lines-fault (b ∷ t) start room n e = byte-fault (kindOf start (upper b) t) start room (upper b) (λ s left. readLines t s left) n (λ s left m f. lines-fault t s left m f) e
 
 -- the reader's own numbers are at most 11
 pub refusal-small : (text : Word) (k : ℕ) → readFasta text ≡ refused k → k ≤ 11

@@ -4,7 +4,7 @@ use Prim.Native.Nat.{ℕ, suc, _+_, _-_, _≤_, _<_}
 use mathlib.Core.Path.{_≡_, refl, sym, ap, _∙_}
 use mathlib.Core.Bool.{Bool, true, false}
 use native.Mathlib.Omega.{arith}
-use lib.ListN.{length, drop, getD}
+use lib.ListN.{length, drop}
 use Rattle.palindromes.specs.Word.{Word}
 use Rattle.palindromes.specs.Fasta.{Body, fault, letters, withLetter, readLines}
 use Rattle.fasta_later_lines.specs.Passes.{kindNamed, tallyAfter}
@@ -12,7 +12,7 @@ use Rattle.fasta_later_lines.specs.declared.ByteKind.{ByteKind}
 use Rattle.fasta_later_lines.specs.declared.ByteKind.the-variants.{SecondHeader, LineEnd, BeforeLf, Letter, Other}
 use Rattle.fasta_later_lines.specs.declared.Tally.{Tally}
 use Rattle.fasta_later_lines.specs.declared.Tally.the-variants.{Letters, Fault}
-use Rattle.fasta_later_lines.proofs.LaterLines.{kindAt, at-header, at-other, at-line-end, at-before-lf, at-letter-full, at-letter, at-end}
+use Rattle.fasta_later_lines.proofs.LaterLines.{readAt, kindAt, at-header, at-other, at-line-end, at-before-lf, at-letter-full, at-letter, at-end}
 
 -- at place i, with n letters counted, the rest yields the answer `whole`
 pub record Counted (s : Word) (i : ℕ) (lineStart : Bool) (n : ℕ) (whole : Tally) : Type 0 where
@@ -72,5 +72,5 @@ module _ {s : Word} {i : ℕ} {lineStart : Bool} {n : ℕ} {whole : Tally} (so-f
         rw (more, starts)
         (record {
           room = omega arith;
-          rest = sym (one-counted n (getD s i 0) (readLines (drop (i + 1) s) false (1024 - (n + 1)))) ∙ (rw (left, at-letter s i inside lineStart (1024 - (n + 1)) (sym met ∙ ap kindNamed k)) at (so-far .rest));
+          rest = sym (one-counted n (readAt s i) (readLines (drop (i + 1) s) false (1024 - (n + 1)))) ∙ (rw (left, at-letter s i inside lineStart (1024 - (n + 1)) (sym met ∙ ap kindNamed k)) at (so-far .rest));
         })

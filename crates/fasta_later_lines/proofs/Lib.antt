@@ -1,3 +1,4 @@
+pub mod Upper
 pub mod LaterLines
 pub mod Counting
 pub mod Writing

@@ -11,7 +11,7 @@ use lib.Seq.{sets, length-sets}
 use Rattle.palindromes.specs.Word.{Word, isLetter}
 use Rattle.palindromes.specs.Fasta.{Kind, secondHeader, lineEnd, beforeLf, letter, other, Body, fault, letters, withLetter, readLines}
 use Rattle.fasta_later_lines.specs.Passes.{lettersOf}
-use Rattle.fasta_later_lines.proofs.LaterLines.{kindAt, kind-letter, letter-kind, at-header, at-other, at-line-end, at-before-lf, at-letter-full, at-letter, at-end}
+use Rattle.fasta_later_lines.proofs.LaterLines.{readAt, kindAt, kind-letter, letter-kind, at-header, at-other, at-line-end, at-before-lf, at-letter-full, at-letter, at-end}
 
 -- at place i, with n letters written, writing the letters that are left makes the buffer `whole`; whether a line begins there matters to the reading alone
 pub record Writing (s : Word) (i n : ℕ) (out whole : Word) : Type 0 where
@@ -53,7 +53,7 @@ module _ {s : Word} {i n : ℕ} {out whole : Word} (so-far : Writing s i n out w
   start = so-far .lineStart
 
   -- a byte that is not a letter is passed over
-  pub other-passed : isLetter (getD s i 0) ≡ false → Writing s (i + 1) n out whole
+  pub other-passed : isLetter (readAt s i) ≡ false → Writing s (i + 1) n out whole
   other-passed no-letter = by-kind (kindAt s i start) refl
     where
       on : (begins : Bool) → readLines (drop i s) start (1024 - n) ≡ readLines (drop (i + 1) s) begins (1024 - n) → Writing s (i + 1) n out whole
@@ -66,26 +66,26 @@ module _ {s : Word} {i n : ℕ} {out whole : Word} (so-far : Writing s i n out w
       by-kind letter e = absurd (true≢false (sym (letter-kind start (getD s i 0) (drop (i + 1) s) e) ∙ no-letter))
       by-kind other e = absurd (no-fault 4 (so-far .left) (sym (at-other s i inside start (1024 - n) e) ∙ so-far .good))
 
-  module _ (a-letter : isLetter (getD s i 0) ≡ true) where
+  module _ (a-letter : isLetter (readAt s i) ≡ true) where
     -- the letter at the place is the first of those that are left
-    first-left : (v : Word) × (readLines (drop (i + 1) s) false (1024 - (n + 1)) ≡ letters v) × (so-far .left ≡ getD s i 0 ∷ v)
+    first-left : (v : Word) × (readLines (drop (i + 1) s) false (1024 - (n + 1)) ≡ letters v) × (so-far .left ≡ readAt s i ∷ v)
     first-left = go (1024 - n) refl
       where
         is : kindAt s i start ≡ letter
         is = kind-letter start (getD s i 0) (drop (i + 1) s) a-letter
 
-        go : (room : ℕ) → 1024 - n ≡ room → (v : Word) × (readLines (drop (i + 1) s) false (1024 - (n + 1)) ≡ letters v) × (so-far .left ≡ getD s i 0 ∷ v)
+        go : (room : ℕ) → 1024 - n ≡ room → (v : Word) × (readLines (drop (i + 1) s) false (1024 - (n + 1)) ≡ letters v) × (so-far .left ≡ readAt s i ∷ v)
         go zero e = absurd (no-fault 5 (so-far .left) (sym (at-letter-full s i inside start is) ∙ (rw e at (so-far .good))))
         go (suc room) e =
             let less : 1024 - (n + 1) ≡ room = omega arith in
-            rw less (letter-first (getD s i 0) (readLines (drop (i + 1) s) false room) (so-far .left) (sym (at-letter s i inside start room is) ∙ (rw e at (so-far .good))))
+            rw less (letter-first (readAt s i) (readLines (drop (i + 1) s) false room) (so-far .left) (sym (at-letter s i inside start room is) ∙ (rw e at (so-far .good))))
 
     -- its place lies in the buffer
     pub has-room : n < length out
     has-room = omega (arith, ap length (first-left .2), so-far .fits)
 
     -- it is written after those that stand
-    pub letter-written : Writing s (i + 1) (n + 1) (set out n (getD s i 0)) whole
+    pub letter-written : Writing s (i + 1) (n + 1) (set out n (readAt s i)) whole
     letter-written =
         let f = first-left in
         record {

@@ -1,13 +1,15 @@
 // The later lines of a FASTA text: one pass judges them and counts their letters, one pass writes the
 // letters.
+//
+// A byte is read as its capital, so that a, c, g and t are letters too.
 ghost use mathlib.Core.Path.{_≡_};
 ghost use mathlib.Core.Bool.{true};
 ghost use Prim.Native.Nat.{_+_, _≤_, _<_};
 ghost use lib.ListN.{length, drop, getD};
 ghost use lib.Seq.{sets};
-ghost use Rattle.palindromes.specs.Fasta.{letters, kindOf, readLines};
+ghost use Rattle.palindromes.specs.Word.{isLetter};
+ghost use Rattle.palindromes.specs.Fasta.{upper, letters, kindOf, readLines};
 ghost use Rattle.fasta_later_lines.specs.Passes.{kindNamed, tallyAfter, lettersOf};
-use alphabet::is_letter;
 use fasta_first_line::lf_at;
 
 // What a byte of a later line is.
@@ -25,13 +27,31 @@ pub enum Tally {
     Fault(usize),
 }
 
+// Whether a byte is read as a letter.
+fn reads_as_letter(b: u8) -> bool
+    ensures { λ r. ⌜ r ≡ isLetter (upper b) ⌝ }
+{
+    match b {
+        b'A' | b'C' | b'G' | b'T' | b'a' | b'c' | b'g' | b't' => true,
+        _ => false,
+    }
+}
+
+// The letter that a byte is read as. A letter's two cases differ in no bit but the one of 32.
+fn capital(b: u8) -> u8
+    requires { ⌜ isLetter (upper b) ≡ true ⌝ }
+    ensures { λ r. ⌜ r ≡ upper b ⌝ }
+{
+    b % 32 + 64
+}
+
 // What the byte at this place is. Most bytes are letters, so that test comes first.
 fn kind_at(text: &[u8], at: usize, line_start: bool) -> ByteKind
     requires { ⌜ at < length (now text) ⌝ }
-    ensures { λ r. ⌜ kindNamed r ≡ kindOf «line_start» (getD (now (text .entry)) at 0) (drop (at + 1) (now (text .entry))) ⌝ }
+    ensures { λ r. ⌜ kindNamed r ≡ kindOf «line_start» (upper (getD (now (text .entry)) at 0)) (drop (at + 1) (now (text .entry))) ⌝ }
 {
     let b = text[at];
-    if is_letter(b) {
+    if reads_as_letter(b) {
         return ByteKind::Letter;
     }
     if line_start && b == b'>' {
@@ -86,8 +106,8 @@ pub fn write_letters(text: &[u8], start: usize, out: &mut [u8])
     let mut i = start;
     while i < text.len() {
         let b = text[i];
-        if is_letter(b) {
-            out[n] = b;
+        if reads_as_letter(b) {
+            out[n] = capital(b);
             n += 1;
         }
         i += 1;

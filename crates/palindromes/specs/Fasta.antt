@@ -1,5 +1,5 @@
--- DEFINITIONS. What a FASTA text says, in document 01's narrow reading of NCBI's description. Nothing here is proved.
-use Prim.Native.Nat.{ℕ, zero, suc}
+-- DEFINITIONS. What a FASTA text says, in document 01's narrow reading of NCBI's description, with the small letters of 02 (i). Nothing here is proved.
+use Prim.Native.Nat.{ℕ, zero, suc, _-_}
 use mathlib.Core.Bool.{Bool, true, false, cond, _&&_, _||_}
 use mathlib.Core.List.{[], _∷_}
 use lib.Dec.{leb, eqb}
@@ -36,6 +36,10 @@ unfoldable pub afterFirstLine : Word → Word
 afterFirstLine [] = []
 afterFirstLine (b ∷ t) = elim (eqb b 10) [ true ↦ t | false ↦ afterFirstLine t ]
 
+-- 02 (i) "lower case read as upper case": the capital of a small ASCII letter, and every other byte itself
+unfoldable pub upper : ℕ → ℕ
+upper b = cond (leb 97 b && leb b 122) (b - 32) b
+
 -- what a byte of a later line is, by the place in its line and the bytes after it
 pub data Kind : Type 0 where
   secondHeader lineEnd beforeLf letter other : Kind
@@ -64,9 +68,10 @@ readByte letter lineStart zero b next = fault 5
 readByte letter lineStart (suc room) b next = withLetter b (next false room)
 readByte other lineStart room b next = fault 4
 
+-- each byte of a later line is read as its capital: of the small ones a, c, g and t are letters then, and 02 (i) "the other codes still get 4"
 unfoldable pub readLines : Word → Bool → ℕ → Body
 readLines [] lineStart room = letters []
-readLines (b ∷ t) lineStart room = readByte (kindOf lineStart b t) lineStart room b (λ start left. readLines t start left)
+readLines (b ∷ t) lineStart room = readByte (kindOf lineStart (upper b) t) lineStart room (upper b) (λ start left. readLines t start left)
 
 unfoldable pub withIdentifier : ℕ → Body → Fasta
 withIdentifier n (fault k) = refused k

@@ -9,7 +9,7 @@ use Rattle.fasta_later_lines.proofs.kind_at.Tie as tie
 
 returns : tie.Need-returns
 unfolding kindNamed
-returns c = sym (kind-letter _ _ _ (sym (c .before .is-letter .ensures) ∙ c .if1 .taken))
+returns c = sym (kind-letter _ _ _ (sym (c .before .reads-as-letter .ensures) ∙ c .if1 .taken))
 
 returns-2 : tie.Need-returns-2
 unfolding kindNamed
@@ -31,7 +31,7 @@ returns-6 : tie.Need-returns-6
 unfolding kindNamed
 returns-6 c =
     let plain = c .before .before in
-    sym (kind-other _ _ _ (⊎-elim (λ w. inr (w .1 .left)) (λ w. inl (w .left)) (c .before .if2 .came)) (c .match .rest .0 .1) (c .match .rest .1) (sym (plain .before .is-letter .ensures) ∙ plain .if1 .left))
+    sym (kind-other _ _ _ (⊎-elim (λ w. inr (w .1 .left)) (λ w. inl (w .left)) (c .before .if2 .came)) (c .match .rest .0 .1) (c .match .rest .1) (sym (plain .before .reads-as-letter .ensures) ∙ plain .if1 .left))
 
 pub kind-at-spec : {M : Type 1} → statement M
 kind-at-spec =

@@ -23,19 +23,24 @@ abbrev μ-loop : tie.MeasureT-loop
 loop-holds : tie.Need-loop-holds Inv-loop μ-loop
 loop-holds c = nothing-written _ _ _ (c .before .before .pre .0) (c .before .before .pre .1)
 
+capital-requires : tie.Need-capital-requires Inv-loop μ-loop
+capital-requires c κs = sym (c .before .reads-as-letter .ensures) ∙ c .if1 .taken
+
 slice-write-out : tie.Need-slice-write-out Inv-loop μ-loop
-slice-write-out c = has-room (c .before .before .before .before .loop .inv) (c .before .before .before .loop-test .taken) (sym (c .before .is-letter .ensures) ∙ c .if1 .taken)
+slice-write-out c =
+    let read = c .before .before in
+    has-room (read .before .before .before .loop .inv) (read .before .before .loop-test .taken) (sym (read .reads-as-letter .ensures) ∙ c .before .if1 .taken)
 
 add-n : tie.Need-add-n Inv-loop μ-loop
-add-n c = omega (arith, slice-write-out c, simp length-sets at (keeps-length (c .before .before .before .before .loop .inv)))
+add-n c = omega (arith, slice-write-out c, simp length-sets at (keeps-length (c .before .before .before .before .before .loop .inv)))
 
 loop-again : tie.Need-loop-again Inv-loop μ-loop
 loop-again c =
     let inv = c .before .before .before .before .loop .inv in
     let inside = c .before .before .before .loop-test .taken in
-    let told = c .before .is-letter .ensures in
+    let told = c .before .reads-as-letter .ensures in
     ⊎-elim
-    (λ w. rw (w .1, w .2) (letter-written inv inside (sym told ∙ w .0 .taken)))
+    (λ w. rw (w .2, w .3, w .1 .ensures) (letter-written inv inside (sym told ∙ w .0 .taken)))
     (λ w. rw (w .1, w .2) (other-passed inv inside (sym told ∙ w .0 .left)))
     (c .if1 .came)
 
@@ -54,6 +59,7 @@ write-letters-spec =
     loop-holds
     (λ c. search needs)
     (λ c κs. search needs)
+    capital-requires
     slice-write-out
     add-n
     (λ c. omega arith)
