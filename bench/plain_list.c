@@ -21,7 +21,14 @@ static bool name_byte(uint8_t c)
     return (c >= 'A' && c <= 'Z') || (c >= 'a' && c <= 'z') || (c >= '0' && c <= '9') || c == '_';
 }
 
-static bool is_letter(uint8_t c) { return c == 'A' || c == 'C' || c == 'G' || c == 'T'; }
+/* A small letter is read as its capital; of no other byte this is a letter. */
+static uint8_t capital(uint8_t c) { return c & 0xdf; }
+
+static bool is_letter(uint8_t c)
+{
+    c = capital(c);
+    return c == 'A' || c == 'C' || c == 'G' || c == 'T';
+}
 
 /* Reads the first line; `at` becomes the place behind it. The refusal number, or 0. */
 static int first_line(const uint8_t *text, size_t n, size_t *at)
@@ -58,7 +65,7 @@ static int later_lines(const uint8_t *text, size_t n, size_t at)
             return 4;
         if (letter_count == LETTERS_MOST)
             return 5;
-        letters[letter_count++] = c;
+        letters[letter_count++] = capital(c);
     }
     return 0;
 }

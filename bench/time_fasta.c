@@ -1,4 +1,4 @@
-/* The clock on reading a FASTA text, in lines of 60 letters. */
+/* The clock on reading a FASTA text, in lines of 60 letters, in capitals and in mixed case. */
 #include <string.h>
 
 #include "clock.h"
@@ -21,9 +21,9 @@ static int64_t sample(reader *run, uint8_t *into, size_t length)
     return now_ns() - from;
 }
 
-struct pair time_fasta(int word, size_t n, int samples)
+/* The text at hand, which has n letters. */
+static struct pair time_text(size_t length, size_t n, int samples)
 {
-    size_t length = make_fasta(word, text, n);
     int64_t cost = clock_cost(), library = INT64_MAX, twin = INT64_MAX;
     for (int i = 0; i < samples; i++) {
         library = smaller(library, sample(mirror_fasta, out, length));
@@ -33,4 +33,16 @@ struct pair time_fasta(int word, size_t n, int samples)
     if (!same || memcmp(out, other, n) != 0)
         return (struct pair){-1, 1};
     return (struct pair){(double)(library - cost) / 1e3, (double)(twin - cost) / 1e3};
+}
+
+struct pair time_fasta(int word, size_t n, int samples)
+{
+    return time_text(make_fasta(word, text, n), n, samples);
+}
+
+struct pair time_masked_fasta(int word, size_t n, int samples)
+{
+    size_t length = make_fasta(word, text, n);
+    mask_fasta(text, length);
+    return time_text(length, n, samples);
 }

@@ -11,8 +11,9 @@ struct pair {
     double library, twin;
 };
 
-/* The ratio that a tested call may reach at 1,000 letters. */
+/* The ratio that a tested call may reach at 1,000 letters, and the one for reading FASTA. */
 #define RATIO_LIMIT 1.5
+#define FASTA_LIMIT 1.2
 
 enum { TEST_ALONE = 5, ADD_RIGHT = 2 };
 
@@ -29,10 +30,11 @@ struct ways {
 };
 void time_changes(int word, size_t n, int samples, struct ways *add, struct ways *take);
 
-/* An untested fill of n letters, and reading a FASTA text of n letters; the library's time is -1 where it leaves other
- * bytes than the twin. */
+/* An untested fill of n letters, and reading a FASTA text of n letters, in capitals and in mixed case; the library's time
+ * is -1 where it leaves other bytes than the twin. */
 struct pair time_fill(int word, size_t n, int samples);
 struct pair time_fasta(int word, size_t n, int samples);
+struct pair time_masked_fasta(int word, size_t n, int samples);
 
 /* Cost against n, for each word: one panel of the drawing of growth. */
 enum { POINTS = 8, POINT_STEP = 125 };

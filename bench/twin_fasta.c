@@ -10,7 +10,14 @@ static bool name_byte(uint8_t c)
     return (c >= 'A' && c <= 'Z') || (c >= 'a' && c <= 'z') || (c >= '0' && c <= '9') || c == '_';
 }
 
-static bool is_letter(uint8_t c) { return c == 'A' || c == 'C' || c == 'G' || c == 'T'; }
+/* The capital of a letter in either case; of no other byte a letter. */
+static uint8_t capital(uint8_t c) { return c & 0xdf; }
+
+static bool is_letter(uint8_t c)
+{
+    c = capital(c);
+    return c == 'A' || c == 'C' || c == 'G' || c == 'T';
+}
 
 static bool line_end(const uint8_t *text, size_t length, size_t at)
 {
@@ -64,6 +71,6 @@ uint64_t twin_fasta(const uint8_t *text, size_t length, uint8_t *out, size_t out
         return number != 0 ? (uint64_t)number : 9;
     for (; at < length; at++)
         if (is_letter(text[at]))
-            out[n++] = text[at];
+            out[n++] = capital(text[at]);
     return (uint64_t)name << 32 | (uint64_t)letters << 48;
 }

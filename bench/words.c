@@ -60,3 +60,14 @@ size_t make_fasta(int which, uint8_t *out, size_t n)
     }
     return length;
 }
+
+void mask_fasta(uint8_t *text, size_t length)
+{
+    uint32_t seed = 20250101;
+    size_t i = 0;
+    while (i < length && text[i] != '\n')
+        i++;
+    for (; i < length; i++)
+        if (text[i] != '\n' && next_random(&seed) >> 31)
+            text[i] |= 0x20;
+}

@@ -15,6 +15,9 @@ void make_word(int which, uint8_t *out, size_t n);
 enum { FASTA_LINE = 60, FASTA_MOST = 1024 };
 size_t make_fasta(int which, uint8_t *out, size_t n);
 
+/* Makes about half of the letters of such a text small, by chance: no real mask is harder to foresee. */
+void mask_fasta(uint8_t *text, size_t length);
+
 /* The next number of a sequence that is the same in every run. */
 uint32_t next_random(uint32_t *state);
 

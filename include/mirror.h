@@ -27,7 +27,7 @@ enum {
     MIRROR_CAPACITY = 1,    /* opening: capacity outside 1 to 1,024 */
     MIRROR_STORE_SHORT = 2, /* opening: store too short */
     MIRROR_DAMAGED = 3,     /* store not good, or too short for its capacity */
-    MIRROR_NO_LETTER = 4,   /* not A, C, G, T */
+    MIRROR_NO_LETTER = 4,   /* not A, C, G, T; FASTA: nor a, c, g, t */
     MIRROR_FULL = 5,        /* record full; FASTA: over 1,024 letters */
     MIRROR_EMPTY = 6,       /* record empty */
     MIRROR_NO_PLACE = 7,    /* place not in record; row free or over capacity + 1 */
@@ -54,7 +54,8 @@ uint64_t mirror_find(const uint8_t *store, size_t length, const uint8_t *piece, 
 uint64_t mirror_list(const uint8_t *store, size_t length, const uint8_t *identifier, size_t identifier_length,
                      uint8_t *scratch, size_t scratch_length, uint8_t *out, size_t out_length);
 /* Reads a FASTA text of any length; needs no store. The identifier stands behind the first `>`, and its length is the
- * first number; the letters go to the front of `out`, and how many is the second. 1,024 bytes are always room enough. */
+ * first number; the letters go to the front of `out`, and how many is the second. 1,024 bytes are always room enough. In
+ * the lines after the first a, c, g and t are read, and written, as A, C, G and T; no other call takes small letters. */
 uint64_t mirror_fasta(const uint8_t *text, size_t length, uint8_t *out, size_t out_length);
 
 static inline unsigned mirror_refusal(uint64_t answer) { return (unsigned)(answer & 0xff); }

@@ -1,5 +1,6 @@
-/* The FASTA reader through the C boundary, judged by a second reader: the corner cases with their keys, every short text
- * over the bytes that mean something, texts that random slips made of good ones, and texts beyond 65,536 bytes.
+/* The FASTA reader through the C boundary, judged by a second reader: the corner cases with their keys, every byte in a
+ * later line, every short text over the bytes that mean something, texts that random slips made of good ones, and texts
+ * beyond 65,536 bytes.
  * Usage: fasta [seed [texts]] */
 #include "fasta_check.h"
 #include "fasta_texts.h"
@@ -22,6 +23,16 @@ static void every_short(const char *beginning, const char *alphabet, unsigned mo
             for (unsigned i = 0; i < n; i++, rest /= base) text[start + i] = (uint8_t)alphabet[rest % base];
             fasta_check(text, start + n);
         }
+}
+
+/* every byte between two letters of a later line */
+static void every_byte(void)
+{
+    memcpy(text, ">e\nA?c\n", 7);
+    for (unsigned byte = 0; byte < 256; byte++) {
+        text[4] = (uint8_t)byte;
+        fasta_check(text, 7);
+    }
 }
 
 /* a good text or a corner case, and up to three slips */
@@ -47,8 +58,8 @@ static void long_text(void)
     size_t length = (size_t)sprintf((char *)text, ">long_%u\n", fasta_next(1000)), start = length;
     length += 190 * 1024;
     memset(text + start, '\n', length - start);
-    for (size_t i = 0; i < 1024; i++) text[start + 190 * i + fasta_next(190)] = (uint8_t)"ACGT"[fasta_next(4)];
-    if (fasta_next(2)) text[start + fasta_next((unsigned)(length - start))] = (uint8_t)"AN>\r"[fasta_next(4)];
+    for (size_t i = 0; i < 1024; i++) text[start + 190 * i + fasta_next(190)] = (uint8_t)"ACGTacgt"[fasta_next(8)];
+    if (fasta_next(2)) text[start + fasta_next((unsigned)(length - start))] = (uint8_t)"AaNn>\r"[fasta_next(6)];
     fasta_check(text, length);
 }
 
@@ -71,8 +82,10 @@ int main(int argc, char **argv)
     unsigned long texts = argc > 2 ? strtoul(argv[2], NULL, 10) : 200000;
     fasta_seed(argc > 1 ? strtoull(argv[1], NULL, 10) : 20251115);
     for (size_t i = 0; i < fasta_keys_count; i++) fasta_check_key(&fasta_keys[i]);
+    every_byte();
     every_short("", ">A \r\n", 7);
     every_short(">e\n", ">AN\r\n", 6);
+    every_short(">e\n", ">atn\n", 6);
     for (unsigned long i = 0; i < texts; i++) with_slips();
     for (unsigned long i = 0; i < texts / 10; i++) any_bytes();
     for (unsigned long i = 0; i < texts / 5000; i++) long_text();

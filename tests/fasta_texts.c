@@ -34,11 +34,12 @@ size_t fasta_good(uint8_t *text)
     size_t n = put(text, 0, ">"), identifier = 1 + fasta_next(fasta_next(4) ? 6 : 32);
     size_t letters = fasta_next(20) ? fasta_next(40) : 1018 + fasta_next(10);
     size_t width = 1 + fasta_next(fasta_next(2) ? 8 : 80);
+    unsigned masked = fasta_next(3) ? fasta_next(5) : 0; /* of four letters so many are small */
 
     for (size_t i = 0; i < identifier; i++) text[n++] = (uint8_t)"AZaz09_eT5"[fasta_next(10)];
     n = line_end(text, put(text, n, rests[fasta_next(6)]));
     for (size_t i = 0; i < letters; i++) {
-        text[n++] = (uint8_t)"ACGT"[fasta_next(4)];
+        text[n++] = (uint8_t)(fasta_next(4) < masked ? "acgt" : "ACGT")[fasta_next(4)];
         while ((i + 1) % width == 0 && fasta_next(3)) n = line_end(text, n);
     }
     return fasta_next(2) ? line_end(text, n) : n;

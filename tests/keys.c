@@ -96,6 +96,20 @@ static void full(const char *name, const char *period)
     }
 }
 
+/* 02 (i): a FASTA text may have small letters, the adding call and find take capitals only */
+static void capitals_only(void)
+{
+    static const char small[] = "acgt";
+    record("ACGT", 8, 0);
+    sitting = "small letters";
+    for (size_t i = 0; i < 4; i++) {
+        const char piece[] = {small[i], 0};
+        key("add a small letter left", 4, mirror_add_left(store, length, (uint64_t)small[i]));
+        key("add a small letter right", 4, mirror_add_right(store, length, (uint64_t)small[i]));
+        key("find a small letter", 4, found(piece));
+    }
+}
+
 /* ---- with a star */
 
 static void short_records(uint64_t capacity, int from_left)
@@ -143,6 +157,7 @@ int main(void)
     full("ACGT again and again", "ACGT");
     full("a palindrome again and again", "AACCAA");
     full("an uneven record", "");
+    capitals_only();
     for (size_t k = 0; k < sizeof capacities / sizeof capacities[0]; k++)
         for (int from_left = 0; from_left < 2; from_left++) {
             short_records(capacities[k], from_left);

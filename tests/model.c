@@ -127,6 +127,8 @@ static void ask_pieces(void)
     same("find a piece longer than the record", 0, find(piece, length + 1));
     same("find nothing", 8, find(piece, 0));
     same("find N", 4, find((const unsigned char *)"ANA", 3));
+    same("find a small letter", 4, find((const unsigned char *)&"acgt"[length % 4], 1));
+    same("find a small letter among others", 4, find((const unsigned char *)"AcA", 3));
 }
 
 /* the lent buffers around one accepted list */

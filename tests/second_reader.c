@@ -32,14 +32,23 @@ static size_t identifier_of(line l)
     return 0;
 }
 
+/* The letter that a byte of a later line stands for, in either case; 0 where it stands for none. */
+static unsigned char letter_of(uint8_t byte)
+{
+    static const char pairs[] = "AaCcGgTt";
+    const char *at = byte == 0 ? NULL : strchr(pairs, byte);
+    return at == NULL ? 0 : (unsigned char)pairs[(at - pairs) / 2 * 2];
+}
+
 /* The letters of a later line join the reading; the number of the line's first fault. */
 static unsigned add_line(second_reading *r, line l)
 {
     if (l.length > 0 && l.bytes[0] == '>') return 11;
     for (size_t i = 0; i < l.length; i++) {
-        if (l.bytes[i] == 0 || strchr("ACGT", l.bytes[i]) == NULL) return 4;
+        unsigned char letter = letter_of(l.bytes[i]);
+        if (letter == 0) return 4;
         if (r->count == MOST_LETTERS) return 5;
-        r->letters[r->count++] = l.bytes[i];
+        r->letters[r->count++] = letter;
     }
     return 0;
 }

@@ -35,7 +35,7 @@ static unsigned letter_of(int word, unsigned i)
 }
 
 /* numbers that are no letters; some would be one if they were narrowed to a byte */
-static const uint64_t no_letters[] = {'N', 'U', 'a', 't', 0, 255, 'A' + 256, 'T' + 65536, 'C' + (1ull << 32), 'G' + (1ull << 63)};
+static const uint64_t no_letters[] = {'N', 'U', 'a', 'c', 'g', 't', 0, 255, 'A' + 256, 'T' + 65536, 'C' + (1ull << 32), 'G' + (1ull << 63)};
 
 static void random_sitting(size_t capacity, unsigned turns, unsigned alphabet, unsigned removing)
 {
