@@ -10,7 +10,8 @@ enum { MOST_TEXT = 200 * 1024 };
 /* How many calls were made, and how many of them must answer each number. */
 extern unsigned long fasta_calls, fasta_seen[256];
 
-/* Stops the test where an answer or a byte is not what the second reader says. */
+/* Stops the test where an answer or a byte is not what the second reader says, or not the same for the text with its later
+ * lines in capitals. */
 void fasta_check(const uint8_t *text, size_t length);
 /* The text of a key, written to `text`, which has MOST_TEXT bytes; its length. */
 size_t fasta_key_text(const fasta_key *key, uint8_t *text);

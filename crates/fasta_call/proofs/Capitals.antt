@@ -4,7 +4,7 @@ use Prim.Native.Nat.{ℕ}
 use mathlib.Core.Path.{_≡_, sym, ap, _∙_}
 use lib.ListN.{length}
 use Rattle.palindromes.specs.Word.{Word}
-use Rattle.palindromes.specs.Fasta.{Fasta, readFasta}
+use Rattle.palindromes.specs.Fasta.{Fasta}
 use Rattle.outcome.specs.Reply.{packed}
 use Rattle.fasta.specs.Reader.{readingOf, writtenTo}
 use Rattle.fasta.specs.Capitals.{upperLaterLines}

@@ -26,7 +26,7 @@ upper-cases b = by-tests (leb 97 b) (leb b 122) refl refl
     by-tests false y l h = inl refl
 
 -- a byte whose capital is x is x, or the small letter of x
-pub upper-is : (b x : ℕ) → upper b ≡ x → (b ≡ x) ⊎ ((97 ≤ b) × (b ≡ x + 32))
+upper-is : (b x : ℕ) → upper b ≡ x → (b ≡ x) ⊎ ((97 ≤ b) × (b ≡ x + 32))
 upper-is b x e = ⊎-elim (λ s. inl (sym s ∙ e)) (λ s. inr (s .0, omega (arith, s .0, s .2, e))) (upper-cases b)
 
 -- a capital has itself

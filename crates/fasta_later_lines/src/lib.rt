@@ -27,7 +27,8 @@ pub enum Tally {
     Fault(usize),
 }
 
-// Whether a byte is read as a letter.
+// Whether a byte is read as a letter. The eight bytes are tested at once: to take the capital first
+// and to test that would cost a branch on the case.
 fn reads_as_letter(b: u8) -> bool
     ensures { λ r. ⌜ r ≡ isLetter (upper b) ⌝ }
 {
@@ -37,7 +38,8 @@ fn reads_as_letter(b: u8) -> bool
     }
 }
 
-// The letter that a byte is read as. A letter's two cases differ in no bit but the one of 32.
+// The letter that a byte is read as. A letter's two cases have the same last five bits, and capitals
+// stand from 64 on.
 fn capital(b: u8) -> u8
     requires { ⌜ isLetter (upper b) ≡ true ⌝ }
     ensures { λ r. ⌜ r ≡ upper b ⌝ }

@@ -1,7 +1,6 @@
 -- 02 (i): mirrorlist prints for a text, byte for byte, what it prints for the text with its later lines in capitals.
 -- Rests on what the two texts say and on their identifier (`fasta`). Assumes nothing.
 use mathlib.Core.Path.{_≡_, refl, ap}
-use lib.ListN.{length}
 use Rattle.palindromes.specs.Word.{Word}
 use Rattle.palindromes.specs.Palindrome.{plain}
 use Rattle.palindromes.specs.Bed.{listing}
