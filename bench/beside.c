@@ -21,7 +21,7 @@ enum { LETTERS = 1000, CAPACITY = LETTERS + 24, COPIES = 8, ROUNDS = 8 * COPIES,
 static library copies[COPIES][2], *sides = copies[0];
 static unsigned char has[2][LIBRARY_CALLS];
 static struct sitting records[2][WORDS], s;
-static uint8_t fasta_text[2][2 * LETTERS + 6];
+static uint8_t fasta_texts[2][2 * LETTERS + 6], fasta_text[2 * LETTERS + 6];
 static size_t fasta_length;
 static int64_t least[ALL][WORDS][2];
 static bool refused[ALL];
@@ -51,31 +51,33 @@ static void make_record(struct sitting *to, const library *by, int word)
 /* Opening and reading FASTA are short, and can be done again at once. */
 static int times_of(int call) { return call == OPEN || call >= FASTA ? 10 : 1; }
 
-/* One call of one library. Both work in the same bytes, which hold that library's record before each sample. */
+/* One call of one library. Both work in the same bytes, which hold that library's record or text before each sample. */
 static int64_t sample(int call, int word, int side)
 {
     measured = &sides[side];
-    memcpy(s.store, records[side][word].store, s.length);
+    if (call >= FASTA)
+        memcpy(fasta_text, fasta_texts[side], fasta_length);
+    else
+        memcpy(s.store, records[side][word].store, s.length);
     int64_t from = now_ns();
     for (int i = times_of(call); i > 0; i--)
-        sink = call >= FASTA ? measured->fasta(fasta_text[side], fasta_length, s.out, s.out_length) : calls[call].library(&s);
+        sink = call >= FASTA ? measured->fasta(fasta_text, fasta_length, s.out, s.out_length) : calls[call].library(&s);
     int64_t took = now_ns() - from;
     refused[call] |= (sink & 0xff) != 0;
     return took;
 }
 
-/* The texts of the two libraries: in mixed case where that is asked for and read. One that refuses small letters, as the
- * first version did, is timed on capitals. */
+/* The texts of the two libraries, which are the same; but an other revision that refuses small letters, as the first version
+ * did, is timed on capitals. */
 static void make_texts(int call, int word)
 {
     for (int side = 0; side < 2; side++) {
-        uint8_t *text = fasta_text[side];
-        fasta_length = make_fasta(word, text, LETTERS);
+        fasta_length = make_fasta(word, fasta_texts[side], LETTERS);
         if (call == MASKED)
-            mask_fasta(text, fasta_length);
-        if ((sides[side].fasta(text, fasta_length, s.out, s.out_length) & 0xff) != 0)
-            make_fasta(word, text, LETTERS);
+            mask_fasta(fasta_texts[side], fasta_length);
     }
+    if ((sides[1].fasta(fasta_texts[1], fasta_length, s.out, s.out_length) & 0xff) != 0)
+        make_fasta(word, fasta_texts[1], LETTERS);
 }
 
 static void measure(int call, int word)

@@ -21,7 +21,7 @@ static bool name_byte(uint8_t c)
     return (c >= 'A' && c <= 'Z') || (c >= 'a' && c <= 'z') || (c >= '0' && c <= '9') || c == '_';
 }
 
-/* A small letter is read as its capital; of no other byte this is a letter. */
+/* The capital of a letter in either case; of no other byte a letter. */
 static uint8_t capital(uint8_t c) { return c & 0xdf; }
 
 static bool is_letter(uint8_t c)

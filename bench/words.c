@@ -63,7 +63,7 @@ size_t make_fasta(int which, uint8_t *out, size_t n)
 
 void mask_fasta(uint8_t *text, size_t length)
 {
-    uint32_t seed = 20250101;
+    uint32_t seed = 20261116; /* not that of the random word, whose letters would then decide their case */
     size_t i = 0;
     while (i < length && text[i] != '\n')
         i++;

@@ -55,7 +55,7 @@ uint64_t mirror_list(const uint8_t *store, size_t length, const uint8_t *identif
                      uint8_t *scratch, size_t scratch_length, uint8_t *out, size_t out_length);
 /* Reads a FASTA text of any length; needs no store. The identifier stands behind the first `>`, and its length is the
  * first number; the letters go to the front of `out`, and how many is the second. 1,024 bytes are always room enough. In
- * the lines after the first a, c, g and t are read, and written, as A, C, G and T; no other call takes small letters. */
+ * the lines after the first a, c, g and t are read, and written, as A, C, G and T; additions and find take capitals only. */
 uint64_t mirror_fasta(const uint8_t *text, size_t length, uint8_t *out, size_t out_length);
 
 static inline unsigned mirror_refusal(uint64_t answer) { return (unsigned)(answer & 0xff); }

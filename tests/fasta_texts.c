@@ -47,7 +47,7 @@ size_t fasta_good(uint8_t *text)
 
 static uint8_t some_byte(void)
 {
-    static const char telling[] = ">>\r\r\n\n \tACGTNacgtU;-*_@[`{/:"; /* the zero byte at its end counts too */
+    static const char telling[] = ">>\r\r\n\n \tACGTNacgtnUu;-*_@[`{/:"; /* the zero byte at its end counts too */
     return fasta_next(4) ? (uint8_t)telling[fasta_next(sizeof telling)] : (uint8_t)fasta_next(256);
 }
 

@@ -1,6 +1,6 @@
 /* The sittings with known keys of the scope, as its table has them, through the C boundary. Those without a star are
  * here only; the starred ones are proved (crates/known_answers) and run here too, at several capacities and built from either end.
- * A key is compared as it stands in the table, and no other program is asked. */
+ * A key is compared as it stands in the table, and no other program is asked. Beside the table: small letters are refused. */
 #include "mirror.h"
 #include <stdio.h>
 #include <stdlib.h>

@@ -5,12 +5,14 @@
  *     versions ONE.so OTHER.so SEED CALLS [LEFT OUT..]
  *
  * CALL leaves a call out, CALL.flag, .row, .first or .second that field of its answer; `store` leaves out the stores'
- * bytes, for versions that lay a store out differently: then no store is damaged either. */
+ * bytes, for versions that lay a store out differently: then no store is damaged either; `small` gives the second version
+ * capitals where a later line of a FASTA text has small letters, which the first versions refused. */
 #include "calls.h"
 #include "damages.h"
 #include "fasta_texts.h"
 #include "guard.h"
 #include "random.h"
+#include <ctype.h>
 #include <stdio.h>
 #include <stdlib.h>
 #include <string.h>
@@ -24,7 +26,7 @@ static uint8_t *stores[2], *outs[2], *scratches[2], *text;
 static size_t whole, length, capacity, size; /* damage may cut the length that is lent of the whole store */
 static unsigned char letters[MOST + 1];
 static uint64_t left_out[LIBRARY_CALLS]; /* bits of each call's answer that are not compared; all: it is not made */
-static int stores_apart;
+static int stores_apart, without_small;
 static unsigned long compared[LIBRARY_CALLS], refused, damaged_calls, total;
 
 /* ---- one call on both */
@@ -266,18 +268,29 @@ static size_t some_text(uint8_t *bytes)
     return n;
 }
 
+/* the text for the second version: the same, or with its later lines in capitals */
+static void second_text(uint8_t *to, const uint8_t *bytes, size_t n)
+{
+    const uint8_t *lf = n > 0 ? memchr(bytes, '\n', n) : NULL;
+    memcpy(to, bytes, n);
+    for (size_t i = lf && without_small ? (size_t)(lf - bytes) : n; i < n; i++) to[i] = (uint8_t)toupper(bytes[i]);
+}
+
 static void read_text(void)
 {
-    static uint8_t bytes[FASTA_MOST];
-    size_t n = some_text(bytes), room = random_below(3) ? MOST : random_below(MOST + 8);
+    static uint8_t bytes[2][FASTA_MOST];
+    size_t n = some_text(bytes[0]), room = random_below(3) ? MOST : random_below(MOST + 8);
+    uint8_t *texts[2];
     uint64_t answers[2];
     if (left_out[FASTA] == UINT64_MAX) return;
-    text = guarded(TEXT_SLOT, bytes, n);
+    second_text(bytes[1], bytes[0], n);
+    for (int i = 0; i < 2; i++) texts[i] = guarded(SCRATCH_SLOT + i, bytes[i], n); /* the reader takes no scratch */
     for (int again = 0; again < 2; again++) {
         lend(outs, OUT_SLOT, room, 0x5a);
-        for (int i = 0; i < 2; i++) answers[i] = both[i].fasta(text, n, outs[i], room);
+        for (int i = 0; i < 2; i++) answers[i] = both[i].fasta(texts[i], n, outs[i], room);
         same_bytes(FASTA, "the output", outs, room);
-        if (memcmp(text, bytes, n) != 0) differ(FASTA, "the text lent", 0, 1);
+        for (int i = 0; i < 2; i++)
+            if (memcmp(texts[i], bytes[i], n) != 0) differ(FASTA, "the text lent", 0, 1);
         uint64_t answer = same_answer(FASTA, answers);
         if ((answer & 0xff) != 0) return;
         room = (answer >> 48) - (answer >> 48 != 0); /* once more with a byte less than it wrote */
@@ -314,6 +327,7 @@ static void leave_out(const char *what)
         if (strcmp(dot + 1, fields[i].name) == 0) bits = fields[i].bits;
     unsigned which = library_call(name);
     if (strcmp(what, "store") == 0) stores_apart = 1;
+    else if (strcmp(what, "small") == 0) without_small = 1;
     else if (which != LIBRARY_CALLS && which != OPEN && bits != 0) left_out[which] |= bits;
     else {
         fprintf(stderr, "versions: %s is no call that can be left out, and no field of one\n", what);

@@ -3,7 +3,7 @@ ghost use mathlib.Core.Path.{_≡_};
 ghost use Rattle.palindromes.specs.Word.{isLetter, allLetters};
 
 // Whether a byte is one of them.
-pub fn is_letter(c: u8) -> bool
+fn is_letter(c: u8) -> bool
     ensures { λ r. ⌜ r ≡ isLetter c ⌝ }
 {
     match c {

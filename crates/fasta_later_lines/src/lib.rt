@@ -27,8 +27,8 @@ pub enum Tally {
     Fault(usize),
 }
 
-// Whether a byte is read as a letter. The eight bytes are tested at once: to take the capital first
-// and to test that would cost a branch on the case.
+// Whether a byte is read as a letter. All eight bytes are one mask to the compiler: to take the capital
+// first and to test that is slower.
 fn reads_as_letter(b: u8) -> bool
     ensures { λ r. ⌜ r ≡ isLetter (upper b) ⌝ }
 {
