@@ -67,8 +67,8 @@ static int64_t sample(int call, int word, int side)
     return took;
 }
 
-/* The texts of the two libraries, which are the same; but an other revision that refuses small letters, as the first version
- * did, is timed on capitals. */
+/* The texts of the two libraries, which are the same; but another revision that refuses small letters, as the first version did,
+ * is timed on capitals. */
 static void make_texts(int call, int word)
 {
     for (int side = 0; side < 2; side++) {

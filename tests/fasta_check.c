@@ -1,5 +1,6 @@
 /* The judge: what mirror_fasta must answer follows from the second reading and the size of the output buffer alone. */
 #include "fasta_check.h"
+#include "fasta_texts.h"
 #include "guard.h"
 #include "mirror.h"
 #include <ctype.h>
@@ -50,21 +51,12 @@ static void one_call(const uint8_t *text, size_t length, const second_reading *r
     if (memcmp(in, text, length) != 0) fail("the text was changed", text, length, room, 0, 0);
 }
 
-/* the text with its later lines in capitals */
-static const uint8_t *in_capitals(const uint8_t *text, size_t length)
-{
-    static uint8_t capitals[MOST_TEXT];
-    const uint8_t *lf = length > 0 ? memchr(text, '\n', length) : NULL;
-    memcpy(capitals, text, length);
-    for (size_t i = lf ? (size_t)(lf - text) : length; i < length; i++) capitals[i] = (uint8_t)toupper(text[i]);
-    return capitals;
-}
-
 void fasta_check(const uint8_t *text, size_t length)
 {
+    static uint8_t capitals[MOST_TEXT];
     second_reading r = second_read(text, length);
-    const uint8_t *capitals = in_capitals(text, length);
-    int small = length > 0 && memcmp(capitals, text, length) != 0;
+    fasta_capitals(capitals, text, length);
+    int small = memcmp(capitals, text, length) != 0;
     for (int place = GUARD_AFTER; place <= GUARD_BEFORE; place++) {
         guard_at((guard_place)place);
         one_call(text, length, &r, 0);

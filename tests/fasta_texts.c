@@ -1,6 +1,7 @@
 /* Bytes that mean something to a reader come far more often than chance would bring them, and slips strike the first
  * line as often as all the others: that is where the rules are. */
 #include "fasta_texts.h"
+#include <ctype.h>
 #include <string.h>
 
 static uint64_t state;
@@ -43,6 +44,13 @@ size_t fasta_good(uint8_t *text)
         while ((i + 1) % width == 0 && fasta_next(3)) n = line_end(text, n);
     }
     return fasta_next(2) ? line_end(text, n) : n;
+}
+
+void fasta_capitals(uint8_t *to, const uint8_t *text, size_t length)
+{
+    size_t i = 0;
+    for (; i < length && text[i] != '\n'; i++) to[i] = text[i];
+    for (; i < length; i++) to[i] = (uint8_t)toupper(text[i]);
 }
 
 static uint8_t some_byte(void)

@@ -12,7 +12,6 @@
 #include "fasta_texts.h"
 #include "guard.h"
 #include "random.h"
-#include <ctype.h>
 #include <stdio.h>
 #include <stdlib.h>
 #include <string.h>
@@ -268,14 +267,6 @@ static size_t some_text(uint8_t *bytes)
     return n;
 }
 
-/* the text for the second version: the same, or with its later lines in capitals */
-static void second_text(uint8_t *to, const uint8_t *bytes, size_t n)
-{
-    const uint8_t *lf = n > 0 ? memchr(bytes, '\n', n) : NULL;
-    memcpy(to, bytes, n);
-    for (size_t i = lf && without_small ? (size_t)(lf - bytes) : n; i < n; i++) to[i] = (uint8_t)toupper(bytes[i]);
-}
-
 static void read_text(void)
 {
     static uint8_t bytes[2][FASTA_MOST];
@@ -283,7 +274,8 @@ static void read_text(void)
     uint8_t *texts[2];
     uint64_t answers[2];
     if (left_out[FASTA] == UINT64_MAX) return;
-    second_text(bytes[1], bytes[0], n);
+    if (without_small) fasta_capitals(bytes[1], bytes[0], n);
+    else memcpy(bytes[1], bytes[0], n);
     for (int i = 0; i < 2; i++) texts[i] = guarded(SCRATCH_SLOT + i, bytes[i], n); /* the reader takes no scratch */
     for (int again = 0; again < 2; again++) {
         lend(outs, OUT_SLOT, room, 0x5a);

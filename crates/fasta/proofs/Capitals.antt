@@ -1,5 +1,5 @@
 -- 02 (i): a text and the text with its later lines in capitals are read alike, and have the same identifier.
--- Rests on the capital of a byte (`Upper`). Assumes nothing.
+-- Rests on the capital of a byte (`Upper`) and on what a first line decides (`Answering`). Assumes nothing.
 use Prim.Native.Nat.{ℕ, zero, suc}
 use native.Mathlib.Omega.{arith}
 use mathlib.Core.Path.{_≡_, refl, sym, ap, _∙_}

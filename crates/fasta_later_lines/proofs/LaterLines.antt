@@ -1,5 +1,5 @@
 -- The definitions of the later lines, read at a place of the text: the kind of a byte by its tests, and what `readLines` makes of a byte of each kind.
--- Both passes rest on it. Rests on `at-place`. Assumes nothing.
+-- Both passes rest on it. Rests on `at-place` and on the capital of a byte (`Upper`). Assumes nothing.
 use Prim.Native.Nat.{ℕ, suc, _+_, _≤_, _<_}
 use mathlib.Core.Path.{_≡_, refl, sym, ap, _∙_}
 use mathlib.Core.Bool.{Bool, true, false, cond, _&&_, and-false, true≢false}

@@ -43,7 +43,7 @@ upper-same b x h = ⊎-elim same other (decided (eqb b x))
     other : eqb b x ≡ false → eqb (upper b) x ≡ eqb b x
     other e = ne-eqb (upper b) x (λ s. ⊎-elim (eqb-false b x e) (λ t. omega (arith, t .0, t .1)) (upper-is b x s)) ∙ sym e
 
--- of the bytes that are no capitals a, c, g and t are read as letters, and no other
+-- every byte but a, c, g and t is read as a letter exactly if it is one
 pub letter-kept : (b : ℕ) → (b ≡ 97 → ⊥) → (b ≡ 99 → ⊥) → (b ≡ 103 → ⊥) → (b ≡ 116 → ⊥) → isLetter (upper b) ≡ isLetter b
 letter-kept b a c g t = ⊎-elim (λ s. ap isLetter s) small (upper-cases b)
   where

@@ -1,5 +1,5 @@
 -- The cells of a row's edges: they are cells 4 to 7, and each letter has its own. So a write of another cell keeps every edge, and a write of one edge keeps the others.
--- Rests on the tests of numbers alone.
+-- Rests on the tests of numbers and on the four letters, case by case.
 use Prim.Native.Nat.{ℕ, _≤_, _<_}
 use native.Mathlib.Omega.{arith}
 use mathlib.Core.Path.{_≡_, refl, sym, ap, _∙_}
