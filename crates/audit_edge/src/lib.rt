@@ -5,6 +5,7 @@ ghost use Prim.Native.Nat.{_+_, _*_, _<_, _≤_};
 ghost use lib.ListN.{length};
 ghost use Rattle.store.specs.Layout.{cell, capacityIn};
 ghost use Rattle.store.specs.Good.{Sized};
+ghost use Rattle.walk.specs.Frame.{partnerIn};
 ghost use Rattle.audit_fixed.specs.Decides.{Decides};
 ghost use Rattle.audit_edge.specs.Edge.{PointsBack, Walkable, LinkFound, NewRow};
 use store::cells::wide;
@@ -48,22 +49,24 @@ pub fn longer_by_two(b: &[u8], u: usize, q: usize) -> bool
     true
 }
 
-// The row of the link of what d makes of row u, k letters read.
-pub fn link_found(b: &[u8], f: Frame, k: usize, u: usize, d: u8) -> usize
+// The row of the link of what d, whose partner is `want`, makes of row u, k letters read.
+pub fn link_found(b: &[u8], f: Frame, k: usize, u: usize, d: u8, want: u8) -> usize
     requires { ⌜ Walkable (now b) f k u ⌝ }
+    requires { ⌜ want ≡ partnerIn f d ⌝ }
     ensures { λ r. ⌜ LinkFound (now (b .entry)) k d u r ⌝ }
 {
     if u == Row::IMAGINARY {
         return Row::EMPTY;
     }
-    walk::step(b, f, Side::Right, k, rows::link_of(b, u), d)
+    walk::step(b, f, Side::Right, k, rows::link_of(b, u), d, want)
 }
 
 // Whether row q, which names row u and the letter d, is right as the row of a new palindrome: longer
 // by two, in use, and with the link that the walk finds, k letters read.
-pub fn new_row_right(b: &[u8], f: Frame, k: usize, u: usize, d: u8, q: usize) -> bool
+pub fn new_row_right(b: &[u8], f: Frame, k: usize, u: usize, d: u8, want: u8, q: usize) -> bool
     requires { ⌜ Walkable (now b) f k u ⌝ }
     requires { ⌜ q < capacityIn (now b) + 2 ⌝ }
+    requires { ⌜ want ≡ partnerIn f d ⌝ }
     ensures { λ r. ⌜ NewRow (now (b .entry)) k d u q r ⌝ }
 {
     if !longer_by_two(b, u, q) {
@@ -72,7 +75,7 @@ pub fn new_row_right(b: &[u8], f: Frame, k: usize, u: usize, d: u8, q: usize) ->
     if header::count(b) <= rows::rank_of(b, q) {
         return false;
     }
-    if rows::link_of(b, q) != link_found(b, f, k, u, d) {
+    if rows::link_of(b, q) != link_found(b, f, k, u, d, want) {
         return false;
     }
     true

@@ -7,10 +7,10 @@ use Rattle.palindromes.specs.Word.{Word}
 use Rattle.store.specs.Layout.{capacityIn, sizeIn, readingIn, lengthIn, linkIn, innerIn, outerIn, lettersAt}
 use Rattle.store.specs.Good.{Sized}
 
--- the sizes, and the reading of a plain record
+-- the sizes, and one of the two readings
 pub record HeaderRight (b : Word) : Type 0 where
   pub sized : Sized b
-  pub reading : readingIn b ≡ 0
+  pub reading : readingIn b < 2
 
 -- the places after the last letter are zero
 abbrev pub FreePlaces : Word → Type 0

@@ -14,7 +14,7 @@ use store::rows;
 use store::rows::Row;
 use walk::frame::frame_of;
 
-// Whether the store has the sizes that its header names, and the reading of a plain record.
+// Whether the store has the sizes that its header names, and one of the two readings.
 pub fn sized(b: &[u8]) -> bool
     ensures { λ r. ⌜ Decides r (HeaderRight (now (b .entry))) ⌝ }
 {
@@ -34,7 +34,7 @@ pub fn sized(b: &[u8]) -> bool
     if capacity < header::size(b) {
         return false;
     }
-    if header::reading(b) != 0 {
+    if 1 < header::reading(b) {
         return false;
     }
     true

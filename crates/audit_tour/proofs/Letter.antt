@@ -29,6 +29,8 @@ use Rattle.palindromes.proofs.Growth.{link-of-letter, link-of-framed, link-stoo
 use Rattle.palindromes.proofs.Places.{stands-true, stands-is, stands-empty}
 use Rattle.palindromes.proofs.Palindromes.{count-empty, count-snoc, count-length}
 use Rattle.palindromes.proofs.Across.{whole-at, whole-test}
+use Rattle.palindromes.proofs.Readings.{rule-inverse}
+use Rattle.palindromes.proofs.Letters.{letter-of}
 use Rattle.eertree.specs.Covers.{NodeOf, Covers, withUsed}
 use Rattle.eertree.proofs.Covers.{around-not-empty}
 use Rattle.eertree.proofs.Rows.{reachOf, reach-length, imaginary-row}
@@ -36,7 +38,7 @@ use Rattle.eertree.proofs.Nodes.{root-zero, root-one, node-from-step, node-from
 use Rattle.eertree.proofs.Replay.{Fits, step-there, read-none, read-old, read-fresh, read-new}
 use Rattle.store.specs.Layout.{cell, capacityIn, countIn, readingIn, lengthIn, linkIn, innerIn, outerIn, edgeIn, rankIn, usedIn, lettersIn}
 use Rattle.store.specs.Good.{ruleOf, tableIn, nodeIn, Good}
-use Rattle.store.proofs.Sizes.{rule-inverse, letters-length}
+use Rattle.store.proofs.Sizes.{letters-length}
 use Rattle.walk.specs.Frame.{Frames}
 use Rattle.walk.specs.Walk.{Chain, Meets, Stepped, grown, ended, Found}
 use Rattle.walk.specs.declared.frame.Frame.{Frame}
@@ -44,7 +46,6 @@ use Rattle.walk.specs.declared.Walked.{Walked}
 use Rattle.walk.specs.declared.Walked.the-variants.{At, Nothing}
 use Rattle.walk.proofs.Found.{stored-reach, chain, meets-longest, meets-link}
 use Rattle.walk.proofs.Stores.{rows-fit}
-use Rattle.alphabet.proofs.Letters.{letter-of}
 use Rattle.transitions.proofs.Rows.{covers, used-root, used-is, used-rank, length-row}
 use Rattle.transitions.proofs.Start.{Roots, roots-cover}
 use Rattle.audit_edge.specs.Edge.{PointsBack, Walkable, LinkFound, alone, within, NewRow, right, not-longer, not-used, not-linked}

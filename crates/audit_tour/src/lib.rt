@@ -5,10 +5,13 @@ ghost use mathlib.Core.Path.{_≡_};
 ghost use Prim.Native.Nat.{_+_, _*_, _<_, _≤_};
 ghost use lib.ListN.{length};
 ghost use Rattle.store.specs.Layout.{lettersIn};
-ghost use Rattle.walk.specs.Frame.{Frames};
+ghost use Rattle.partners.specs.Table.{PartnersIn};
+ghost use Rattle.walk.specs.Frame.{Frames, partnerIn};
 ghost use Rattle.audit_tour.specs.Tour.{Ready, Blank, readIn, leftAfter, Reading, Grows, Visited};
 use audit_edge::new_row_right;
 use audit_edge::points_back;
+use partners::partner_in;
+use partners::table;
 use store::lengths;
 use store::lengths::Place;
 use store::letters::Side;
@@ -46,9 +49,18 @@ pub fn left_after(b: &[u8], k: usize, q: usize, left: usize) -> usize
     }
 }
 
-// The letter d, k letters read, leads along the edge of row u.
-pub fn enter(b: &[u8], f: Frame, marks: &mut [u8], k: usize, tour: Tour, u: usize, d: u8) -> Visit
-    requires { ⌜ Frames (now b) f ⌝ }
+// The letter d, whose partner is `want`, k letters read, leads along the edge of row u.
+pub fn enter(
+    b: &[u8],
+    f: Frame,
+    marks: &mut [u8],
+    k: usize,
+    tour: Tour,
+    u: usize,
+    d: u8,
+    want: u8,
+) -> Visit
+    requires { ⌜ Frames (now b) f × (want ≡ partnerIn f d) ⌝ }
     requires { ⌜ Reading (now b) (now marks) k tour ⌝ }
     requires { ⌜ Grows (now b) (now marks) k d u ⌝ }
     ensures { λ r. ⌜ Visited (now (b .entry)) (now (marks .exit)) (readIn (now (b .entry)) (k + 1)) r ⌝ }
@@ -65,7 +77,7 @@ pub fn enter(b: &[u8], f: Frame, marks: &mut [u8], k: usize, tour: Tour, u: usiz
             met: tour.met,
         });
     }
-    if !new_row_right(b, f, k, u, d, q) {
+    if !new_row_right(b, f, k, u, d, want, q) {
         return Visit::Broken;
     }
     marks[q] = 1;
@@ -77,15 +89,23 @@ pub fn enter(b: &[u8], f: Frame, marks: &mut [u8], k: usize, tour: Tour, u: usiz
 }
 
 // The letter after the first k.
-pub fn advance(b: &[u8], f: Frame, marks: &mut [u8], k: usize, tour: Tour) -> Visit
-    requires { ⌜ Frames (now b) f ⌝ }
+pub fn advance(
+    b: &[u8],
+    f: Frame,
+    partners: &[u8; 256],
+    marks: &mut [u8],
+    k: usize,
+    tour: Tour,
+) -> Visit
+    requires { ⌜ Frames (now b) f × PartnersIn (f .reading) (now partners) ⌝ }
     requires { ⌜ Reading (now b) (now marks) k tour ⌝ }
     ensures { λ r. ⌜ Visited (now (b .entry)) (now (marks .exit)) (readIn (now (b .entry)) (k + 1)) r ⌝ }
 {
-    let d = seen(b, f, Side::Right, k);
-    let found = walk::walk(b, f, Side::Right, k, tour.row, d);
+    let d = seen(b, f, partners, Side::Right, k);
+    let want = partner_in(partners, d);
+    let found = walk::walk(b, f, Side::Right, k, tour.row, d, want);
     match found {
-        Walked::At(u) => enter(b, f, marks, k, tour, u, d),
+        Walked::At(u) => enter(b, f, marks, k, tour, u, d, want),
         Walked::Nothing => Visit::Next(Tour {
             row: Row::EMPTY,
             left: tour.left,
@@ -102,6 +122,7 @@ pub fn replay(b: &[u8], marks: &mut [u8]) -> Visit
 {
     let f = frame_of(b);
     let n = f.n;
+    let partners = table(f.reading);
     let mut tour = Tour {
         row: Row::EMPTY,
         left: Row::EMPTY,
@@ -109,7 +130,7 @@ pub fn replay(b: &[u8], marks: &mut [u8]) -> Visit
     };
     let mut k = 0;
     while k < n {
-        let Visit::Next(next) = advance(b, f, marks, k, tour) else {
+        let Visit::Next(next) = advance(b, f, &partners, marks, k, tour) else {
             return Visit::Broken;
         };
         tour = next;

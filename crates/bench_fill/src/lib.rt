@@ -3,6 +3,7 @@
 ghost use Rattle.bench_fill.specs.Fills.{Fills};
 use alphabet::all_letters;
 use filling::fill;
+use opening::Reading;
 
 // Fills a record, and answers how many letters it was given; 0 where it has no room or a byte is no
 // letter, and the store then stays.
@@ -19,7 +20,7 @@ pub extern "C" fn bench_fill(store: &mut [u8], letters: &[u8]) -> u64
     if !all_letters(letters) {
         return 0;
     }
-    opening::open(store, 1024);
+    opening::open(store, Reading::Plain, 1024);
     fill(store, letters);
     letters.len() as u64
 }

@@ -61,7 +61,7 @@ module _ (b : Word) where
   decision : Dec (Good b)
   decision =
       need sized-decided (λ g. g .sized) λ sized.
-      need (ℕ-discrete (readingIn b) 0) (λ g. g .reading) λ reading.
+      need (decLt (readingIn b) 2) (λ g. g .reading) λ reading.
       need (Bool-discrete (allLetters (lettersIn b)) true) (λ g. g .letters) λ letters.
       need (shows-decided (ruleOf b) (lettersIn b) (tableIn b) (nodeIn b) (capacityIn b + 2) (used-below b)) (λ g. g .table) λ table.
       need (ℕ-discrete (countIn b) (count (ruleOf b) (lettersIn b))) (λ g. g .count-is) λ count-is.

@@ -9,25 +9,27 @@ use mathlib.Core.List.{[]}
 use lib.ListN.{length, take, getD}
 use lib.Seq.{take-suc, take-length, length-take-le}
 use Rattle.palindromes.specs.Word.{Word, isLetter, allLetters}
+use Rattle.palindromes.specs.Reading.{asPlain, readingNumber}
 use Rattle.palindromes.specs.End.{atRight, added}
 use Rattle.palindromes.specs.Refusal.{storeSize}
+use Rattle.palindromes.proofs.Letters.{letter-of}
 use Rattle.store.specs.Layout.{capacityIn, sizeIn}
 use Rattle.transitions.specs.Opening.{opened}
 use Rattle.transitions.specs.Addition.{afterAddition}
-use Rattle.transitions.proofs.Opening.{opened-capacity, opened-letters, opened-good}
+use Rattle.transitions.proofs.Opening.{opened-capacity, opened-reading, opened-letters, opened-good}
 use Rattle.store.proofs.Sizes.{letters-length}
 use Rattle.transitions.proofs.Added.{addition}
-use Rattle.alphabet.proofs.Letters.{letter-of}
 use Rattle.filling.specs.Filled.{Filled}
 
 -- a record that was just opened holds no letter
-pub filled-none : (b : Word) → 49408 ≤ length b → Filled (opened 1024 b) []
-unfolding storeSize
+pub filled-none : (b : Word) → 49408 ≤ length b → Filled (opened (readingNumber asPlain) 1024 b) []
+unfolding storeSize readingNumber
 filled-none b l =
     record {
-      good = opened-good 1024 b (omega arith) (omega arith) (omega arith);
-      room = opened-capacity 1024 b (omega arith) (omega arith);
-      letters = opened-letters 1024 b (omega arith) (omega arith);
+      good = opened-good 0 1024 b (omega arith) (omega arith) (omega arith) (omega arith);
+      reading = opened-reading 0 1024 b (omega arith) (omega arith) (omega arith);
+      room = opened-capacity 0 1024 b (omega arith) (omega arith) (omega arith);
+      letters = opened-letters 0 1024 b (omega arith) (omega arith) (omega arith);
     }
 
 module _ (b w : Word) (i : ℕ) (f : Filled b (take i w)) (h : i < length w) (all : allLetters w ≡ true) (few : length w ≤ 1024) where
@@ -43,8 +45,8 @@ module _ (b w : Word) (i : ℕ) (f : Filled b (take i w)) (h : i < length w) (al
   unfolding added
   filled-more =
       let a = addition atRight (f .good) next-letter next-room in
-      record { good = a .good; room = a .capacity ∙ f .room; letters = a .letters ∙ rw (f .letters, add-one i, take-suc w i 0 h) }
+      record { good = a .good; reading = a .reading ∙ f .reading; room = a .capacity ∙ f .room; letters = a .letters ∙ rw (f .letters, add-one i, take-suc w i 0 h) }
 
 -- past the last letter all are there
 pub filled-all : (b w : Word) (i : ℕ) → Filled b (take i w) → i ≡ length w → Filled b w
-filled-all b w i f e = record { good = f .good; room = f .room; letters = f .letters ∙ rw (e, take-length w) }
+filled-all b w i f e = record { good = f .good; reading = f .reading; room = f .room; letters = f .letters ∙ rw (e, take-length w) }

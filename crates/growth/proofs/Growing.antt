@@ -22,6 +22,7 @@ use Rattle.palindromes.proofs.Words.{suffix-append, suffix-trans, suffix-snoc-b
 use Rattle.palindromes.proofs.Places.{stands-true, stands-is, stands-empty}
 use Rattle.palindromes.proofs.Longest.{longest-suffix}
 use Rattle.palindromes.proofs.Growth.{link-of-framed, link-of-letter, link-stood, inner-around, letter-around}
+use Rattle.palindromes.proofs.Readings.{rule-inverse, rule-letter}
 use Rattle.eertree.specs.Covers.{NodeOf}
 use Rattle.eertree.proofs.Rows.{reachOf, row-reach-most, imaginary-row}
 use Rattle.store.specs.Layout.{cell, sizeIn, readingIn, endRow, linkIn, edgeIn, usedIn, lettersIn}
@@ -30,7 +31,7 @@ use Rattle.store.specs.Lengths.{Stored}
 use Rattle.store.specs.Side.{endOf}
 use Rattle.store.specs.declared.letters.Side.{Side}
 use Rattle.store.specs.declared.rows.Row.{Row}
-use Rattle.store.proofs.Sizes.{rule-inverse, rule-letter, letters-length}
+use Rattle.store.proofs.Sizes.{letters-length}
 use Rattle.walk.specs.Walk.{Meets, Stepped, grown, ended, Found}
 use Rattle.walk.specs.Frame.{Frames, seenIn, partnerIn}
 use Rattle.walk.specs.Replay.{lettersTowards, letterTowards}

@@ -1,8 +1,8 @@
 // What a letter makes at an end of a good store: the longest palindrome there is found by a walk, and
 // where it stood nowhere before, the row to write for it.
+use partners::partner;
 use store::header;
 use store::lengths;
-use store::letters;
 use store::letters::Side;
 use store::rows;
 use store::rows::Row;
@@ -11,7 +11,8 @@ use walk::frame;
 ghost use mathlib.Core.Path.{_≡_};
 ghost use mathlib.Core.Bool.{true};
 ghost use Rattle.palindromes.specs.Word.{isLetter};
-ghost use Rattle.store.specs.Good.{ruleIn, Good};
+ghost use Rattle.palindromes.specs.Reading.{ruleIn};
+ghost use Rattle.store.specs.Good.{Good};
 ghost use Rattle.store.specs.Side.{endOf};
 ghost use Rattle.walk.specs.Replay.{letterTowards};
 ghost use Rattle.growth.specs.Steps.{made, linkRow, Met, RowFor, Grown};
@@ -29,7 +30,7 @@ fn read_as(reading: usize, side: Side, c: u8) -> u8
 {
     match side {
         Side::Right => c,
-        Side::Left => letters::partner(reading, c),
+        Side::Left => partner(reading, c),
     }
 }
 
@@ -40,7 +41,7 @@ fn meet(b: &[u8], side: Side, d: u8) -> Walked
 {
     let f = frame::frame_of(b);
     let start = header::end_row(b, side);
-    walk::walk(b, f, side, f.n, start, d)
+    walk::walk(b, f, side, f.n, start, d, partner(f.reading, d))
 }
 
 // The link of what d makes around row u: for a single letter the empty string, with no second walk.
@@ -54,7 +55,7 @@ fn link_around(b: &[u8], side: Side, d: u8, u: usize) -> usize
     }
     let f = frame::frame_of(b);
     let start = rows::link_of(b, u);
-    walk::step(b, f, side, f.n, start, d)
+    walk::step(b, f, side, f.n, start, d, partner(f.reading, d))
 }
 
 // The row of what d makes around row u.

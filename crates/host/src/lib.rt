@@ -1,17 +1,26 @@
 // The calls of a host in C, by the names of include/mirror.h. Each only hands on to a
 // function of the crate of its call, with the same promise, which holds for all bytes and all numbers.
+ghost use Rattle.palindromes.specs.Reading.{asPlain, asInverted};
 ghost use Rattle.palindromes.specs.End.{atLeft, atRight};
 ghost use mathlib.Core.List.{[]};
 ghost use Rattle.palindromes.specs.Refusal.{add, remove, theLength, theCount, theLongest, theLongestAt, theLetter, theRow, spell, find, list};
 ghost use Rattle.fasta_call.specs.Answer.{FastaPromise};
 ghost use Rattle.outcome.specs.Promise.{lending, nothing, Promise, OpeningPromise, FreeRow, Asked};
 
-// Opens an empty record of the given capacity.
+// Opens an empty plain record of the given capacity.
 #[no_mangle]
 pub extern "C" fn mirror_open(store: &mut [u8], capacity: u64) -> u64
-    ensures { λ r. ⌜ OpeningPromise capacity (now (store .entry)) r (now (store .exit)) ⌝ }
+    ensures { λ r. ⌜ OpeningPromise asPlain capacity (now (store .entry)) r (now (store .exit)) ⌝ }
 {
     opening_call::open_record(store, capacity)
+}
+
+// Opens an empty inverted record of the given capacity.
+#[no_mangle]
+pub extern "C" fn mirror_open_inverted(store: &mut [u8], capacity: u64) -> u64
+    ensures { λ r. ⌜ OpeningPromise asInverted capacity (now (store .entry)) r (now (store .exit)) ⌝ }
+{
+    opening_call::open_inverted(store, capacity)
 }
 
 // Adds a letter at the left end.

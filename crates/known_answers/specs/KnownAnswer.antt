@@ -6,7 +6,6 @@ use mathlib.Core.List.{List}
 use mathlib.Core.Option.{none}
 use Prim.Native.Nat.{zero, suc}
 use Rattle.palindromes.specs.Word.{Word, member}
-use Rattle.palindromes.specs.Palindrome.{plain}
 use Rattle.palindromes.specs.Record.{palindromes, count, longestLength, longestPlace}
 use Rattle.palindromes.specs.End.{End, added, removed, letterAt, newIn}
 use Rattle.palindromes.specs.Node.{Node, spelt, linkOf, innerOf, isNode}
@@ -40,19 +39,20 @@ unfoldable pub unlessRefused : ℕ → Answer → Answer
 unlessRefused zero known = known
 unlessRefused (suc n) known = refused (suc n)
 
--- what the definitions answer to a plain record of these letters in a store of this capacity
-unfoldable pub answer : ℕ → Word → Query → Answer
-answer k s howMany = unlessRefused (refusal plain (viewOf k s) (ask theCount)) (number (count plain s))
-answer k s whichLongest = unlessRefused (refusal plain (viewOf k s) (ask theLongest)) (lengthAt (longestLength plain s) (longestPlace plain s))
-answer k s (addition e c) = unlessRefused (refusal plain (viewOf k s) (add e c)) (comesIn (newIn plain s (added e c s)) (count plain (added e c s)))
-answer k s (removal e) =
-    unlessRefused (refusal plain (viewOf k s) (remove e)) (goesOut (letterAt e s) (newIn plain (removed e s) s) (count plain (removed e s)))
-answer k s (theLink w) = cond (isNode plain s (spelt w)) (row (linkOf plain (spelt w))) (refused 7)
-answer k s (theInner w) = cond (isNode plain s (spelt w)) (row (innerOf (spelt w))) (refused 7)
-answer k s (look w) = unlessRefused (refusal plain (viewOf k s) (ask (find w))) (cond (member w (palindromes plain s)) (row (spelt w)) absent)
+-- what the definitions answer to a record of these letters, read by this partner rule, in a store of this capacity
+unfoldable pub answer : (ℕ → ℕ) → ℕ → Word → Query → Answer
+answer σ k s howMany = unlessRefused (refusal σ (viewOf k s) (ask theCount)) (number (count σ s))
+answer σ k s whichLongest = unlessRefused (refusal σ (viewOf k s) (ask theLongest)) (lengthAt (longestLength σ s) (longestPlace σ s))
+answer σ k s (addition e c) = unlessRefused (refusal σ (viewOf k s) (add e c)) (comesIn (newIn σ s (added e c s)) (count σ (added e c s)))
+answer σ k s (removal e) =
+    unlessRefused (refusal σ (viewOf k s) (remove e)) (goesOut (letterAt e s) (newIn σ (removed e s) s) (count σ (removed e s)))
+answer σ k s (theLink w) = cond (isNode σ s (spelt w)) (row (linkOf σ (spelt w))) (refused 7)
+answer σ k s (theInner w) = cond (isNode σ s (spelt w)) (row (innerOf (spelt w))) (refused 7)
+answer σ k s (look w) = unlessRefused (refusal σ (viewOf k s) (ask (find w))) (cond (member w (palindromes σ s)) (row (spelt w)) absent)
 
--- a line of the table: the letters, the least and the greatest capacity for which the answer is claimed, what is asked, and the answer
+-- a line of a table: the partner rule, the letters, the least and the greatest capacity for which the answer is claimed, what is asked, and the answer
 pub record KnownAnswer : Type 0 where
+  pub rule : ℕ → ℕ
   pub letters : Word
   pub least : ℕ
   pub most : ℕ
@@ -61,7 +61,7 @@ pub record KnownAnswer : Type 0 where
 
 -- the answer is right at every capacity of its line
 abbrev pub Right : KnownAnswer → Type 0
-Right x = (k : ℕ) → x .least ≤ k → k ≤ x .most → answer k (x .letters) (x .query) ≡ x .known
+Right x = (k : ℕ) → x .least ≤ k → k ≤ x .most → answer (x .rule) k (x .letters) (x .query) ≡ x .known
 
 -- every answer of the list is right
 pub data AllRight : List KnownAnswer → Type 0 where

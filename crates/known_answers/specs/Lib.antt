@@ -1,2 +1,3 @@
 pub mod KnownAnswer
 pub mod Starred
+pub mod Inverted

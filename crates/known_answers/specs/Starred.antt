@@ -3,6 +3,7 @@
 use Prim.Native.Nat.{ℕ}
 use mathlib.Core.List.{List, [], _∷_}
 use Rattle.palindromes.specs.Word.{Word}
+use Rattle.palindromes.specs.Palindrome.{plain}
 use Rattle.palindromes.specs.End.{atLeft, atRight}
 use Rattle.palindromes.specs.Node.{spelt}
 use Rattle.known_answers.specs.KnownAnswer.{Query, howMany, whichLongest, addition, removal, theLink, theInner, look, Answer, refused, number, lengthAt, comesIn, goesOut, row, absent, KnownAnswer}
@@ -18,7 +19,7 @@ G = 71
 
 -- a line of the table whose key holds at every capacity from the given one on
 abbrev from : ℕ → Word → Query → Answer → KnownAnswer
-from least letters query known = record { letters = letters; least = least; most = 1024; query = query; known = known }
+from least letters query known = record { rule = plain; letters = letters; least = least; most = 1024; query = query; known = known }
 
 abbrev AAAA : Word
 AAAA = A ∷ A ∷ A ∷ A ∷ []
@@ -35,7 +36,7 @@ ACGAAG = A ∷ C ∷ G ∷ A ∷ A ∷ G ∷ []
 unfoldable pub starred : List KnownAnswer
 starred =
     from 1 [] howMany (number 0)
-    ∷ record { letters = A ∷ []; least = 1; most = 1; query = addition atRight C; known = refused 5 }
+    ∷ record { rule = plain; letters = A ∷ []; least = 1; most = 1; query = addition atRight C; known = refused 5 }
     ∷ from 4 AAAA howMany (number 4)
     ∷ from 4 AAAA whichLongest (lengthAt 4 0)
     ∷ from 4 AAAA (removal atRight) (goesOut A (AAAA ∷ []) 3)

@@ -1,5 +1,6 @@
 // The list of the record that letters make. The store is made here and lent to nobody.
 use filling::fill;
+use opening::Reading;
 ghost use mathlib.Core.Path.{_≡_};
 ghost use mathlib.Core.Bool.{true};
 ghost use Prim.Native.Nat.{_≤_};
@@ -28,7 +29,7 @@ pub fn list_letters(name: &[u8], letters: &[u8], out: &mut [u8]) -> usize
 {
     let mut store = blank();
     let mut scratch = [0u8; 4096];
-    opening::open(&mut store, 1024);
+    opening::open(&mut store, Reading::Plain, 1024);
     fill(&mut store, letters);
     listing::list(&store, name, &mut scratch, out)
 }

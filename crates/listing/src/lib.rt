@@ -4,6 +4,7 @@ mod marks;
 use bed::line_length;
 use bed::put_line;
 use marks::meet;
+use partners::table;
 use store::bytes;
 use store::header;
 use store::rows::Row;
@@ -27,11 +28,12 @@ fn add_lines(b: &[u8], name: &[u8], marks: &mut [u8]) -> usize
     ensures { λ r. ⌜ r ≡ length (listingIn (now (b .entry)) (now (name .entry))) ⌝ }
 {
     let f = frame_of(b);
+    let partners = table(f.reading);
     let mut row = Row::EMPTY;
     let mut total = 0;
     let mut k = 0;
     while k < f.n {
-        let met = meet(b, f, k, row, marks);
+        let met = meet(b, f, &partners, k, row, marks);
         row = met.row;
         k += 1;
         if met.first {
@@ -63,11 +65,12 @@ fn put_lines(b: &[u8], name: &[u8], marks: &mut [u8], out: &mut [u8]) -> usize
     ensures kept { λ _. ⌜ SameBehind (sizeIn (now (b .entry))) (now (marks .entry)) (now (marks .exit)) ⌝ }
 {
     let f = frame_of(b);
+    let partners = table(f.reading);
     let mut row = Row::EMPTY;
     let mut at = 0;
     let mut k = 0;
     while k < f.n {
-        let met = meet(b, f, k, row, marks);
+        let met = meet(b, f, &partners, k, row, marks);
         row = met.row;
         k += 1;
         if met.first {

@@ -6,6 +6,7 @@ use store::rows::rank_of;
 use walk::frame::Frame;
 use walk::replay;
 ghost use Prim.Native.Nat.{_<_};
+ghost use Rattle.partners.specs.Table.{PartnersIn};
 ghost use Rattle.store.specs.Layout.{sizeIn};
 ghost use Rattle.store.specs.Good.{Good};
 ghost use Rattle.walk.specs.Frame.{Frames};
@@ -21,14 +22,21 @@ pub struct Meeting {
 
 // Reads letter k from the row that ends the letters before it, and marks the row that it leads to.
 // A row in use has its mark at its rank; a root has none.
-pub fn meet(b: &[u8], f: Frame, k: usize, row: usize, marks: &mut [u8]) -> Meeting
+pub fn meet(
+    b: &[u8],
+    f: Frame,
+    partners: &[u8; 256],
+    k: usize,
+    row: usize,
+    marks: &mut [u8],
+) -> Meeting
     requires { ⌜ Good (now b) ⌝ }
-    requires { ⌜ Frames (now b) f ⌝ }
+    requires { ⌜ Frames (now b) f × PartnersIn (f .reading) (now partners) ⌝ }
     requires { ⌜ k < sizeIn (now b) ⌝ }
     requires { ⌜ ReadTo (now b) k row (now marks) ⌝ }
     ensures { λ r. ⌜ ReadOn (now (b .entry)) k (now (marks .entry)) (r .row) (r .start) (r .first) (now (marks .exit)) ⌝ }
 {
-    let last = replay::next(b, f, Side::Right, k, row);
+    let last = replay::next(b, f, partners, Side::Right, k, row);
     let start = k + 1 - spelling_length(b, last);
     if last <= Row::EMPTY {
         return Meeting {

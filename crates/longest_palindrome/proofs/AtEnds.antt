@@ -16,11 +16,12 @@ use Rattle.palindromes.proofs.Words.{same-or-not}
 use Rattle.palindromes.proofs.Places.{stands-is, stands-empty}
 use Rattle.palindromes.proofs.Longest.{longest-suffix}
 use Rattle.palindromes.proofs.Answers.{once-only}
+use Rattle.palindromes.proofs.Readings.{rule-inverse}
 use Rattle.eertree.proofs.Rows.{row-high}
 use Rattle.store.specs.Layout.{sizeIn, readingIn, endRow, lettersIn}
 use Rattle.store.specs.Good.{ruleOf, Good}
 use Rattle.store.specs.Writes.{towards}
-use Rattle.store.proofs.Sizes.{rule-inverse, letters-length}
+use Rattle.store.proofs.Sizes.{letters-length}
 use Rattle.transitions.proofs.Rows.{covers}
 use Rattle.walk.specs.Replay.{lettersTowards, Surveyed}
 use Rattle.walk.proofs.Towards.{towards-removed, longest-towards, stands-towards-test}

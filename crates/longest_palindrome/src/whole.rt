@@ -1,4 +1,5 @@
 // The longest palindrome of the record: its length and its leftmost place.
+use partners::table;
 use spelling::spelling_length;
 use store::letters::Side;
 use store::rows::Row;
@@ -23,12 +24,13 @@ pub fn longest(b: &[u8]) -> LongestAnswer
     ensures place { λ r. ⌜ r .place ≡ longestPlace (ruleOf (now (b .entry))) (lettersIn (now (b .entry))) ⌝ }
 {
     let f = frame_of(b);
+    let partners = table(f.reading);
     let mut row = Row::EMPTY;
     let mut length = 0;
     let mut place = 0;
     let mut k = 0;
     while k < f.n {
-        row = replay::next(b, f, Side::Right, k, row);
+        row = replay::next(b, f, &partners, Side::Right, k, row);
         let here = spelling_length(b, row);
         if length < here {
             length = here;

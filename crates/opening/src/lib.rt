@@ -1,4 +1,4 @@
-// Opening: an empty record of a given capacity, whatever the bytes held.
+// Opening: an empty record of a given capacity, in either reading, whatever the bytes held.
 use store::bytes;
 use store::header;
 use store::letters::Side;
@@ -7,9 +7,27 @@ use store::rows::Row;
 ghost use mathlib.Core.Path.{_≡_};
 ghost use Prim.Native.Nat.{_+_, _*_, _≤_};
 ghost use lib.ListN.{length};
+ghost use Rattle.palindromes.specs.Reading.{readingNumber};
 ghost use Rattle.palindromes.specs.Refusal.{storeSize};
 ghost use Rattle.store.specs.Writes.{writes};
 ghost use Rattle.transitions.specs.Opening.{orderWrites, headWrites, opened};
+ghost use Rattle.opening.specs.Ways.{wayOf};
+
+// How a record is read.
+pub enum Reading {
+    Plain,
+    Inverted,
+}
+
+// The number that stands for a reading in a store.
+fn reading_number(reading: Reading) -> usize
+    ensures { λ r. ⌜ r ≡ readingNumber (wayOf reading) ⌝ }
+{
+    match reading {
+        Reading::Plain => 0,
+        Reading::Inverted => 1,
+    }
+}
 
 // Lists the rows from 2 on in rising order, and gives each its rank.
 fn number(b: &mut [u8], capacity: usize)
@@ -24,12 +42,13 @@ fn number(b: &mut [u8], capacity: usize)
     }
 }
 
-// Puts the capacity, the lengths of both roots, and both ends at the empty string.
-fn head(b: &mut [u8], capacity: usize)
+// Puts the capacity, the reading, the lengths of both roots, and both ends at the empty string.
+fn head(b: &mut [u8], reading: usize, capacity: usize)
     requires { ⌜ 48 ≤ length (now b) ⌝ }
-    ensures { λ _. ⌜ now (b .exit) ≡ writes (now (b .entry)) (headWrites capacity) ⌝ }
+    ensures { λ _. ⌜ now (b .exit) ≡ writes (now (b .entry)) (headWrites reading capacity) ⌝ }
 {
     header::set_capacity(b, capacity);
+    header::set_reading(b, reading);
     rows::put_length(b, Row::IMAGINARY, Row::IMAGINARY_LENGTH);
     rows::put_length(b, Row::EMPTY, Row::EMPTY_LENGTH);
     header::set_end_row(b, Side::Left, Row::EMPTY);
@@ -37,11 +56,12 @@ fn head(b: &mut [u8], capacity: usize)
 }
 
 // Leaves an empty record that is full at exactly `capacity` letters.
-pub fn open(b: &mut [u8], capacity: usize)
+pub fn open(b: &mut [u8], reading: Reading, capacity: usize)
     requires { ⌜ (1 ≤ capacity) × (capacity ≤ 1024) × (storeSize capacity ≤ length (now b)) ⌝ }
-    ensures { λ _. ⌜ now (b .exit) ≡ opened capacity (now (b .entry)) ⌝ }
+    ensures { λ _. ⌜ now (b .exit) ≡ opened (readingNumber (wayOf reading)) capacity (now (b .entry)) ⌝ }
 {
+    let way = reading_number(reading);
     bytes::clear(b, 24 * (capacity + 2) + capacity);
-    head(b, capacity);
+    head(b, way, capacity);
     number(b, capacity);
 }

@@ -6,6 +6,7 @@ use lib.Dec.{leb}
 use lib.ListN.{length}
 use borrow.Author.Tests.{le-leb, lt-leb}
 use Rattle.palindromes.specs.Word.{Word}
+use Rattle.palindromes.specs.Reading.{Reading, readingNumber}
 use Rattle.palindromes.specs.Refusal.{storeSize}
 use Rattle.palindromes.proofs.Tests.{both-are}
 use Rattle.transitions.specs.Opening.{opened}
@@ -18,20 +19,20 @@ use Rattle.outcome.proofs.Promises.{opening-refused, opening-carried}
 within : (k : ℕ) → 1 ≤ k → k ≤ 1024 → (leb 1 k && leb k 1024) ≡ true
 within k p q = both-are (leb 1 k) (leb k 1024) (le-leb 1 k p) (le-leb k 1024 q)
 
-pub too-small : (k : ℕ) (b : Word) {r : ℕ} → k < 1 → r ≡ packed (refusedWith 1) → OpeningPromise k b r b
-too-small k b h e = opening-refused k b 0 (opening-capacity b nothing k (ap (λ (t : Bool). t && leb k 1024) (lt-leb 1 k h))) e
+pub too-small : (way : Reading) (k : ℕ) (b : Word) {r : ℕ} → k < 1 → r ≡ packed (refusedWith 1) → OpeningPromise way k b r b
+too-small way k b h e = opening-refused way k b 0 (opening-capacity b nothing way k (ap (λ (t : Bool). t && leb k 1024) (lt-leb 1 k h))) e
 
-pub too-large : (k : ℕ) (b : Word) {r : ℕ} → 1 ≤ k → 1024 < k → r ≡ packed (refusedWith 1) → OpeningPromise k b r b
-too-large k b l h e = opening-refused k b 0 (opening-capacity b nothing k (ap₂ (λ (t u : Bool). t && u) (le-leb 1 k l) (lt-leb k 1024 h))) e
+pub too-large : (way : Reading) (k : ℕ) (b : Word) {r : ℕ} → 1 ≤ k → 1024 < k → r ≡ packed (refusedWith 1) → OpeningPromise way k b r b
+too-large way k b l h e = opening-refused way k b 0 (opening-capacity b nothing way k (ap₂ (λ (t u : Bool). t && u) (le-leb 1 k l) (lt-leb k 1024 h))) e
 
-pub too-short : (k : ℕ) (b : Word) {r : ℕ} → 1 ≤ k → k ≤ 1024 → length b < 48 * k + 256 → r ≡ packed (refusedWith 2) → OpeningPromise k b r b
+pub too-short : (way : Reading) (k : ℕ) (b : Word) {r : ℕ} → 1 ≤ k → k ≤ 1024 → length b < 48 * k + 256 → r ≡ packed (refusedWith 2) → OpeningPromise way k b r b
 unfolding storeSize
-too-short k b p q h e = opening-refused k b 1 (opening-short b nothing k (within k p q) h) e
+too-short way k b p q h e = opening-refused way k b 1 (opening-short b nothing way k (within k p q) h) e
 
 pub room-for : (k : ℕ) (b : Word) → 48 * k + 256 ≤ length b → storeSize k ≤ length b
 unfolding storeSize
 room-for k b h = h
 
-pub opened-up : (k : ℕ) (b : Word) {r : ℕ} {b′ : Word} → 1 ≤ k → k ≤ 1024 → 48 * k + 256 ≤ length b → r ≡ packed (accepted false 0 0 0) → b′ ≡ opened k b → OpeningPromise k b r b′
+pub opened-up : (way : Reading) (k : ℕ) (b : Word) {r : ℕ} {b′ : Word} → 1 ≤ k → k ≤ 1024 → 48 * k + 256 ≤ length b → r ≡ packed (accepted false 0 0 0) → b′ ≡ opened (readingNumber way) k b → OpeningPromise way k b r b′
 unfolding acceptedOutcome changed storeSize
-opened-up k b p q h e f = opening-carried k b (opening-accepted b nothing k (within k p q) h) (record { reply = e; store = f; lent = refl })
+opened-up way k b p q h e f = opening-carried way k b (opening-accepted b nothing way k (within k p q) h) (record { reply = e; store = f; lent = refl })

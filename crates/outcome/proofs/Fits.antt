@@ -7,6 +7,7 @@ use mathlib.Core.Bool.{Bool, true, false, cond}
 use mathlib.Core.List.{List, [], _∷_, cons-ne-nil}
 use lib.ListN.{length, getD, length-append}
 use Rattle.palindromes.specs.Word.{Word, isLetter, allLetters, keep, member}
+use Rattle.palindromes.specs.Reading.{Reading}
 use Rattle.palindromes.specs.Record.{palindromes, count, least, longestPlace}
 use Rattle.palindromes.specs.End.{End, atLeft, atRight, letterAt}
 use Rattle.palindromes.specs.Node.{Node, imaginary, spelt, lengthOf, spellingOf}
@@ -14,6 +15,7 @@ use Rattle.palindromes.specs.Refusal.{Question, theLength, theCount, theLongest
 use Rattle.palindromes.proofs.Tests.{both-true}
 use Rattle.palindromes.proofs.Order.{longest-length-fits, longest-place-is}
 use Rattle.palindromes.proofs.Palindromes.{count-length}
+use Rattle.palindromes.proofs.Letters.{letter-byte}
 use Rattle.bed.proofs.Listing.{listing-most}
 use Rattle.eertree.proofs.Rows.{reachOf, row-reach-most}
 use Rattle.store.specs.Layout.{usedIn, lettersIn}
@@ -22,7 +24,7 @@ use Rattle.store.proofs.Sizes.{letters-length}
 use Rattle.transitions.specs.Rows.{rowOf, freeRow}
 use Rattle.transitions.specs.Addition.{longestAfter, bringsIn, rowAfter}
 use Rattle.transitions.specs.Removal.{longestBefore, takesOut}
-use Rattle.transitions.proofs.Letters.{letter-byte, letter-at-end}
+use Rattle.transitions.proofs.Letters.{letter-at-end}
 use Rattle.transitions.proofs.Rows.{row-of-small, row-small, free-below, covers}
 use Rattle.outcome.specs.Reply.{Fits, accepted, refusedWith, answered, twosComplement}
 use Rattle.outcome.specs.Answers.{addedOf, addedReply, removedOf, removedReply, foundOf, foundReply, foundAnswer}
@@ -132,7 +134,7 @@ refused-fits n h = record { number = h; row = omega arith; first = omega arith; 
 module _ (b : Word) (l : Lent) where
   accepted-fits : (call : Call) → Good b → refusal (ruleOf b) (viewIn b l) call ≡ 0 → Fits (acceptedOutcome call b l .reply)
   unfolding acceptedOutcome changed
-  accepted-fits (opening k) g z = fits _ (omega arith) (omega arith) (omega arith)
+  accepted-fits (opening way k) g z = fits _ (omega arith) (omega arith) (omega arith)
   accepted-fits (add e c) g z = added-fits g e c l z
   accepted-fits (remove e) g z = removed-fits g e
   accepted-fits (ask q) g z = answer-fits g q l z
@@ -148,7 +150,7 @@ module _ (b : Word) (l : Lent) where
   reply-fits call g = by-number call (refusal (ruleOf b) (viewIn b l) call) (number-other b l call .0) (accepted-fits call g)
 
   -- and that of an opening, whatever the bytes
-  pub opening-fits : (k : ℕ) → Fits (outcome (opening k) b l .reply)
+  pub opening-fits : (way : Reading) (k : ℕ) → Fits (outcome (opening way k) b l .reply)
   unfolding outcome acceptedOutcome changed
-  opening-fits k =
-      by-number (opening k) (refusal (ruleOf b) (viewIn b l) (opening k)) (number-other b l (opening k) .0) (λ z. fits _ (omega arith) (omega arith) (omega arith))
+  opening-fits way k =
+      by-number (opening way k) (refusal (ruleOf b) (viewIn b l) (opening way k)) (number-other b l (opening way k) .0) (λ z. fits _ (omega arith) (omega arith) (omega arith))

@@ -5,6 +5,7 @@ use native.Mathlib.Omega.{arith}
 use mathlib.Core.Path.{_≡_, refl, sym, _∙_, subst}
 use mathlib.Core.Bool.{true}
 use Rattle.palindromes.specs.Word.{Word, isLetter}
+use Rattle.palindromes.specs.Reading.{Reading}
 use Rattle.palindromes.specs.End.{End}
 use Rattle.palindromes.specs.Refusal.{Call, opening, add, refusal}
 use Rattle.store.specs.Layout.{capacityIn, sizeIn}
@@ -61,13 +62,13 @@ answerable call b l n v z = let h = cleared call b l n v z in record { good = h 
 
 -- ---- an opening
 
-module _ (k : ℕ) (b : Word) where
-  pub opening-refused : (n : ℕ) {r : ℕ} → refusal (ruleOf b) (viewIn b nothing) (opening k) ≡ suc n → r ≡ packed (refusedWith (suc n)) → OpeningPromise k b r b
+module _ (way : Reading) (k : ℕ) (b : Word) where
+  pub opening-refused : (n : ℕ) {r : ℕ} → refusal (ruleOf b) (viewIn b nothing) (opening way k) ≡ suc n → r ≡ packed (refusedWith (suc n)) → OpeningPromise way k b r b
   unfolding refusedOutcome
-  opening-refused n {r} e p = record { left = subst (λ (o : Outcome). Left o r b nothing) (sym (refused-out (opening k) b nothing n e)) (record { reply = p; store = refl; lent = refl }) }
+  opening-refused n {r} e p = record { left = subst (λ (o : Outcome). Left o r b nothing) (sym (refused-out (opening way k) b nothing n e)) (record { reply = p; store = refl; lent = refl }) }
 
-  pub opening-carried : {r : ℕ} {b′ : Word} → refusal (ruleOf b) (viewIn b nothing) (opening k) ≡ 0 → Left (acceptedOutcome (opening k) b nothing) r b′ nothing → OpeningPromise k b r b′
-  opening-carried {r} {b′} e f = record { left = subst (λ (o : Outcome). Left o r b′ nothing) (sym (carried-out (opening k) b nothing e)) f }
+  pub opening-carried : {r : ℕ} {b′ : Word} → refusal (ruleOf b) (viewIn b nothing) (opening way k) ≡ 0 → Left (acceptedOutcome (opening way k) b nothing) r b′ nothing → OpeningPromise way k b r b′
+  opening-carried {r} {b′} e f = record { left = subst (λ (o : Outcome). Left o r b′ nothing) (sym (carried-out (opening way k) b nothing e)) f }
 
 -- ---- an addition
 

@@ -8,6 +8,7 @@ use lib.Dec.{eqb, leb, ltb}
 use lib.ListN.{length}
 use borrow.Author.Tests.{lt-leb, le-leb, lt-ltb, le-ltb, leb-true, leb-false, ltb-true, ltb-false}
 use Rattle.palindromes.specs.Word.{Word, isLetter, allLetters, isEmpty}
+use Rattle.palindromes.specs.Reading.{Reading}
 use Rattle.palindromes.specs.End.{End}
 use Rattle.palindromes.specs.Node.{spellingOf}
 use Rattle.palindromes.specs.Bed.{isIdentifier, listing}
@@ -65,7 +66,7 @@ question-numbers σ v (list name) =
 -- the number of any call on a good store, and of an opening on any: one byte, and never 3
 pub number-other : (b : Word) (l : Lent) (call : Call) → Other (refusal (ruleOf b) (viewIn b l) call)
 unfolding refusal faults viewIn
-number-other b l (opening k) = first-other _ (row 1 _ refl, (row 2 _ refl, tt))
+number-other b l (opening way k) = first-other _ (row 1 _ refl, (row 2 _ refl, tt))
 number-other b l (add e c) = first-other _ (good-store, (row 4 _ refl, (row 5 _ refl, tt)))
 number-other b l (remove e) = first-other _ (good-store, (row 6 _ refl, tt))
 number-other b l (ask q) = first-other _ (good-store, question-numbers _ _ q)
@@ -176,17 +177,17 @@ module _ (b : Word) (l : Lent) where
   unfolding refusal faults questionFaults viewIn firstFault fault
   list-accepted name h k m = rw (h, le-ltb (length (l .scratch)) (4 * length (lettersIn b)) k, le-ltb (length (l .out)) (length (listing (ruleOf b) name (lettersIn b))) m)
 
-  pub opening-capacity : (k : ℕ) → (leb 1 k && leb k 1024) ≡ false → refusal (ruleOf b) (viewIn b l) (opening k) ≡ 1
+  pub opening-capacity : (way : Reading) (k : ℕ) → (leb 1 k && leb k 1024) ≡ false → refusal (ruleOf b) (viewIn b l) (opening way k) ≡ 1
   unfolding refusal faults questionFaults viewIn firstFault fault
-  opening-capacity k h = rw h
+  opening-capacity way k h = rw h
 
-  pub opening-short : (k : ℕ) → (leb 1 k && leb k 1024) ≡ true → length b < storeSize k → refusal (ruleOf b) (viewIn b l) (opening k) ≡ 2
+  pub opening-short : (way : Reading) (k : ℕ) → (leb 1 k && leb k 1024) ≡ true → length b < storeSize k → refusal (ruleOf b) (viewIn b l) (opening way k) ≡ 2
   unfolding refusal faults questionFaults viewIn firstFault fault
-  opening-short k h m = rw (h, lt-ltb (length b) (storeSize k) m)
+  opening-short way k h m = rw (h, lt-ltb (length b) (storeSize k) m)
 
-  pub opening-accepted : (k : ℕ) → (leb 1 k && leb k 1024) ≡ true → storeSize k ≤ length b → refusal (ruleOf b) (viewIn b l) (opening k) ≡ 0
+  pub opening-accepted : (way : Reading) (k : ℕ) → (leb 1 k && leb k 1024) ≡ true → storeSize k ≤ length b → refusal (ruleOf b) (viewIn b l) (opening way k) ≡ 0
   unfolding refusal faults questionFaults viewIn firstFault fault
-  opening-accepted k h m = rw (h, le-ltb (length b) (storeSize k) m)
+  opening-accepted way k h m = rw (h, le-ltb (length b) (storeSize k) m)
 
   -- ---- what a call that is carried out tells of its arguments
 
@@ -222,9 +223,9 @@ refused-out call b l n h = ap (λ (m : ℕ). unlessRefused m call b l) h
 -- ---- an opening
 
 -- an opening that is not refused has a capacity of 1 to 1,024 and room for it
-pub opening-room : (k : ℕ) (b : Word) (l : Lent) → refusal (ruleOf b) (viewIn b l) (opening k) ≡ 0 → (1 ≤ k) × (k ≤ 1024) × (storeSize k ≤ length b)
+pub opening-room : (way : Reading) (k : ℕ) (b : Word) (l : Lent) → refusal (ruleOf b) (viewIn b l) (opening way k) ≡ 0 → (1 ≤ k) × (k ≤ 1024) × (storeSize k ≤ length b)
 unfolding refusal faults questionFaults viewIn firstFault fault
-opening-room k b l h = go (leb 1 k) (leb k 1024) (ltb (length b) (storeSize k)) refl refl refl h
+opening-room way k b l h = go (leb 1 k) (leb k 1024) (ltb (length b) (storeSize k)) refl refl refl h
   where
     go : (p q t : Bool) → leb 1 k ≡ p → leb k 1024 ≡ q → ltb (length b) (storeSize k) ≡ t → firstFault (fault 1 (not (p && q)) ∷ fault 2 t ∷ []) ≡ 0 → (1 ≤ k) × (k ≤ 1024) × (storeSize k ≤ length b)
     go true true true x y z e = absurd (omega arith)

@@ -3,6 +3,7 @@
 use Prim.Native.Nat.{ℕ, zero, suc}
 use mathlib.Core.Path.{_≡_, refl, sym, ap, _∙_, subst}
 use Rattle.palindromes.specs.Word.{Word}
+use Rattle.palindromes.specs.Reading.{Reading}
 use Rattle.palindromes.specs.Refusal.{Call, opening, faults, refusal}
 use Rattle.store.specs.Good.{ruleOf, Good}
 use Rattle.outcome.specs.Reply.{Fits, packed, unpacked}
@@ -25,15 +26,15 @@ pub told : {call : Call} {b : Word} {l : Lent} {a : ℕ} {b′ : Word} {l′ : L
 told {call} {b} {l} {a} {b′} {l′} g p = by-left (reply-fits b l call g) (subst (λ (o : Outcome). Left o a b′ l′) (p .answers .good g) (p .left))
 
 -- an opening asks nothing of the buffers beside the store, and leaves them
-opening-lent : (n k : ℕ) (b : Word) (l : Lent) → unlessRefused n (opening k) b l ≡ record { reply = unlessRefused n (opening k) b nothing .reply; store = unlessRefused n (opening k) b nothing .store; lent = l }
+opening-lent : (n : ℕ) (way : Reading) (k : ℕ) (b : Word) (l : Lent) → unlessRefused n (opening way k) b l ≡ record { reply = unlessRefused n (opening way k) b nothing .reply; store = unlessRefused n (opening way k) b nothing .store; lent = l }
 unfolding unlessRefused acceptedOutcome changed refusedOutcome
-opening-lent zero k b l = refl
-opening-lent (suc n) k b l = refl
+opening-lent zero way k b l = refl
+opening-lent (suc n) way k b l = refl
 
 -- an opening, on any bytes
-pub opening-told : {k : ℕ} {b : Word} {a : ℕ} {b′ : Word} {l l′ : Lent} → OpeningPromise k b a b′ → l′ ≡ l → Told (outcome (opening k) b l) a b′ l′
+pub opening-told : {way : Reading} {k : ℕ} {b : Word} {a : ℕ} {b′ : Word} {l l′ : Lent} → OpeningPromise way k b a b′ → l′ ≡ l → Told (outcome (opening way k) b l) a b′ l′
 unfolding outcome refusal faults viewIn
-opening-told {k} {b} {a} {b′} {l} {l′} p e =
-    let f = by-left (opening-fits b nothing k) (p .left) in
-    let same = opening-lent (refusal (ruleOf b) (viewIn b nothing) (opening k)) k b l in
+opening-told {way} {k} {b} {a} {b′} {l} {l′} p e =
+    let f = by-left (opening-fits b nothing way k) (p .left) in
+    let same = opening-lent (refusal (ruleOf b) (viewIn b nothing) (opening way k)) way k b l in
     subst (λ (o : Outcome). Told o a b′ l′) (sym same) (record { number = f .number; reply = f .reply; store = f .store; lent = e })

@@ -6,6 +6,7 @@ use mathlib.Core.Option.{none, some}
 use lib.ListN.{length, getD, replicate}
 use lib.Seq.{sets}
 use Rattle.palindromes.specs.Word.{Word, member}
+use Rattle.palindromes.specs.Reading.{readingNumber}
 use Rattle.palindromes.specs.Place.{standsOnce}
 use Rattle.palindromes.specs.Record.{palindromes, count, longestLength, longestPlace}
 use Rattle.palindromes.specs.End.{letterAt}
@@ -84,7 +85,7 @@ lentAfter (list name) b l =
 
 -- an accepted call. 01 "Questions and changes"; a question changes no byte of the store
 unfoldable pub acceptedOutcome : Call → Word → Lent → Outcome
-acceptedOutcome (opening k) b l = changed (accepted false 0 0 0) (opened k b) l
+acceptedOutcome (opening way k) b l = changed (accepted false 0 0 0) (opened (readingNumber way) k b) l
 acceptedOutcome (add e c) b l = changed (addedReply (addedOf (bringsIn e c b) (rowAfter e c b))) (afterAddition e c b) l
 acceptedOutcome (remove e) b l =
     changed (removedReply (removedOf (takesOut e b) (letterAt e (lettersIn b)) (rowOf b (spelt (longestBefore e b))))) (afterRemoval e b) l

@@ -4,6 +4,7 @@ use mathlib.Core.Path.{_≡_}
 use mathlib.Core.Bool.{true}
 use mathlib.Core.List.{[]}
 use Rattle.palindromes.specs.Word.{Word}
+use Rattle.palindromes.specs.Reading.{Reading}
 use Rattle.palindromes.specs.End.{End}
 use Rattle.palindromes.specs.Refusal.{Question, Call, opening, ask, add, refusal}
 use Rattle.store.specs.Good.{ruleOf, Good}
@@ -36,9 +37,9 @@ pub record Promise (call : Call) (b : Word) (l : Lent) (r : ℕ) (b′ : Word) (
 abbrev pub Asked : Question → Word → Lent → ℕ → Lent → Type 0
 Asked q b l r l′ = Promise (ask q) b l r b l′
 
--- the same for an opening, which asks nothing of the store's bytes
-pub record OpeningPromise (k : ℕ) (b : Word) (r : ℕ) (b′ : Word) : Type 0 where
-  pub left : Left (outcome (opening k) b nothing) r b′ nothing
+-- the same for an opening, in either reading, which asks nothing of the store's bytes
+pub record OpeningPromise (way : Reading) (k : ℕ) (b : Word) (r : ℕ) (b′ : Word) : Type 0 where
+  pub left : Left (outcome (opening way k) b nothing) r b′ nothing
 
 -- 01 "the free row that a new repeat takes: one of 2 to capacity + 1 that no other repeat has": where an addition to a good store is carried out and brings in a repeat,
 -- the row that it answers is such a one before the call

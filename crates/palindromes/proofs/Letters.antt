@@ -1,11 +1,15 @@
--- The four letters, case by case. Rests on the tests of proofs/Lists.antt only. Assumes nothing.
-use Prim.Native.Nat.{ℕ}
-use mathlib.Core.Path.{_≡_, sym, subst}
+-- The four letters, case by case; and a word is one of letters exactly if each of its letters is one. Rests on the tests of proofs/Lists.antt only. Assumes nothing.
+use Prim.Native.Nat.{ℕ, zero, suc, _<_}
+use native.Mathlib.Omega.{arith}
+use mathlib.Core.Path.{_≡_, refl, sym, subst}
 use mathlib.Core.Bool.{true, _||_}
 use mathlib.Core.Logic.{⊎-elim}
+use mathlib.Core.List.{[], _∷_}
 use lib.Dec.{eqb}
+use lib.ListN.{length, getD}
 use borrow.Author.Tests.{eqb-true}
-use Rattle.palindromes.specs.Word.{isLetter}
+use Rattle.palindromes.specs.Word.{Word, isLetter, allLetters}
+use Rattle.palindromes.proofs.Tests.{both-true, both-are}
 use Rattle.palindromes.proofs.Lists.{either-true}
 
 -- what holds of each of the four letters holds of every letter
@@ -21,3 +25,20 @@ letter-cases P a c g t x h = ⊎-elim acg (λ e. is 84 e t) (either-true (eqb x 
 
     acg : (eqb x 65 || eqb x 67 || eqb x 71) ≡ true → P x
     acg k = ⊎-elim ac (λ e. is 71 e g) (either-true (eqb x 65 || eqb x 67) (eqb x 71) k)
+
+-- a letter is a byte
+pub letter-byte : (c : ℕ) → isLetter c ≡ true → c < 256
+letter-byte = letter-cases (λ x. x < 256) (omega arith) (omega arith) (omega arith) (omega arith)
+
+-- ---- words of letters
+
+pub letter-of : (s : Word) (k : ℕ) → k < length s → allLetters s ≡ true → isLetter (getD s k 0) ≡ true
+unfolding allLetters
+letter-of [] k l h = absurd (omega arith)
+letter-of (x ∷ s) zero l h = both-true (isLetter x) (allLetters s) h .0
+letter-of (x ∷ s) (suc k) l h = letter-of s k (omega arith) (both-true (isLetter x) (allLetters s) h .1)
+
+pub letters-all : (s : Word) → ((i : ℕ) → i < length s → isLetter (getD s i 0) ≡ true) → allLetters s ≡ true
+unfolding allLetters
+letters-all [] h = refl
+letters-all (x ∷ s) h = both-are (isLetter x) (allLetters s) (h 0 (omega arith)) (letters-all s λ i l. h (suc i) (omega arith))

@@ -16,3 +16,4 @@ pub mod Across
 pub mod Answers
 pub mod Listing
 pub mod Search
+pub mod Readings

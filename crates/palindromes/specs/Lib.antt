@@ -1,5 +1,6 @@
 pub mod Word
 pub mod Palindrome
+pub mod Reading
 pub mod Place
 pub mod Record
 pub mod End

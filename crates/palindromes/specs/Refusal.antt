@@ -7,6 +7,7 @@ use mathlib.Core.Option.{Option, none, some}
 use lib.Dec.{leb, ltb}
 use lib.ListN.{length}
 use Rattle.palindromes.specs.Word.{Word, isLetter, allLetters, isEmpty}
+use Rattle.palindromes.specs.Reading.{Reading}
 use Rattle.palindromes.specs.End.{End}
 use Rattle.palindromes.specs.Node.{Node, spellingOf}
 use Rattle.palindromes.specs.Bed.{isIdentifier, listing}
@@ -23,7 +24,7 @@ pub data Question : Type 0 where
 
 -- a call with its arguments, numbers as the host passes them. The buffers that it is lent to write to come beside it
 pub data Call : Type 0 where
-  opening : (capacity : ℕ) → Call
+  opening : Reading → (capacity : ℕ) → Call
   add : End → (letter : ℕ) → Call
   remove : End → Call
   ask : Question → Call
@@ -82,7 +83,7 @@ questionFaults σ v (list name) =
 
 -- the rows of the table that name the call, downwards
 unfoldable pub faults : (ℕ → ℕ) → View → Call → List ℕ
-faults σ v (opening k) = fault 1 (not (leb 1 k && leb k 1024)) ∷ fault 2 (ltb (v .size) (storeSize k)) ∷ []
+faults σ v (opening way k) = fault 1 (not (leb 1 k && leb k 1024)) ∷ fault 2 (ltb (v .size) (storeSize k)) ∷ []
 faults σ v (add e c) = fault 3 (not (v .good)) ∷ fault 4 (not (isLetter c)) ∷ fault 5 (leb (v .capacity) (length (v .letters))) ∷ []
 faults σ v (remove e) = fault 3 (not (v .good)) ∷ fault 6 (isEmpty (v .letters)) ∷ []
 faults σ v (ask q) = fault 3 (not (v .good)) ∷ questionFaults σ v q

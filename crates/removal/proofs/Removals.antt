@@ -20,17 +20,18 @@ use Rattle.palindromes.specs.Node.{spelt, lengthOf}
 use Rattle.palindromes.proofs.Tests.{false-not-true}
 use Rattle.palindromes.proofs.Places.{stands-is, stands-empty}
 use Rattle.palindromes.proofs.NewIn.{longest-at}
+use Rattle.palindromes.proofs.Readings.{rule-inverse}
+use Rattle.palindromes.proofs.Letters.{letter-byte}
 use Rattle.eertree.proofs.Rows.{row-high}
 use Rattle.store.specs.Layout.{capacityIn, sizeIn, countIn, readingIn, endRow, lengthIn, linkIn, innerIn, outerIn, orderIn, rankIn, usedIn, lettersAt, lettersIn}
 use Rattle.store.specs.Good.{ruleOf, nodeIn, Good}
 use Rattle.store.specs.Writes.{towards, writes}
 use Rattle.store.proofs.Writes.{cell-sets, writes-append}
-use Rattle.store.proofs.Sizes.{rule-inverse, letters-length, used-below}
+use Rattle.store.proofs.Sizes.{letters-length, used-below}
 use Rattle.walk.specs.Replay.{lettersTowards, Holds, Surveyed}
 use Rattle.walk.proofs.Towards.{towards-removed, longest-towards, stands-towards-test}
 use Rattle.walk.proofs.Stores.{header-fits}
 use Rattle.transitions.specs.Removal.{longestBefore, takesOut, dropWrites, leaveWrites, removalWrites, afterRemoval}
-use Rattle.transitions.proofs.Letters.{letter-byte}
 use Rattle.transitions.proofs.Rows.{covers, used-rank, used-fits, row-fits, row-of, count-most, outer-letter}
 use Rattle.ends.specs.Steps.{endWrites}
 use Rattle.freeing.specs.Steps.{Leaves}

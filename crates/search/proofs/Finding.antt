@@ -19,13 +19,14 @@ use Rattle.palindromes.proofs.Tests.{decided, not-true-false}
 use Rattle.palindromes.proofs.Words.{stands-length}
 use Rattle.palindromes.proofs.Palindromes.{palindromes-true, palindromes-is}
 use Rattle.palindromes.proofs.Search.{centreOf, reached, reached-start, reached-suc, reached-whole, missing-edge, symmetric-at, symmetric-by-letters}
+use Rattle.palindromes.proofs.Readings.{rule-inverse}
+use Rattle.palindromes.proofs.Letters.{letter-of}
 use Rattle.eertree.specs.Covers.{NodeOf}
 use Rattle.store.specs.Layout.{sizeIn, readingIn, edgeIn, usedIn, lettersIn}
 use Rattle.store.specs.Good.{ruleOf, nodeIn, Good}
-use Rattle.store.proofs.Sizes.{rule-inverse, letters-length}
+use Rattle.store.proofs.Sizes.{letters-length}
 use Rattle.transitions.specs.Rows.{rowOf}
 use Rattle.transitions.proofs.Rows.{covers, row-of}
-use Rattle.alphabet.proofs.Letters.{letter-of}
 use Rattle.search.specs.Search.{isPalindromeIn}
 
 -- the letter at place j of the piece and the one facing it are partners

@@ -1,7 +1,8 @@
 // The search for a piece among the palindromes of a good store's record, from its centre outwards.
 use outcome::answers::Found;
+use partners::partner_in;
+use partners::table;
 use store::header;
-use store::letters::partner;
 use store::rows;
 use store::rows::Row;
 ghost use mathlib.Core.Path.{_≡_};
@@ -34,12 +35,12 @@ pub fn find(b: &[u8], piece: &[u8]) -> Found
     if header::size(b) < piece.len() {
         return Found::Absent;
     }
-    let reading = header::reading(b);
+    let partners = table(header::reading(b));
     let mut row = centre(piece.len());
     let mut k = piece.len() / 2;
     while k < piece.len() {
         let c = piece[k];
-        if piece[piece.len() - 1 - k] != partner(reading, c) {
+        if piece[piece.len() - 1 - k] != partner_in(&partners, c) {
             return Found::Absent;
         }
         row = rows::edge_of(b, row, c);

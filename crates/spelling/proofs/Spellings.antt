@@ -12,11 +12,11 @@ use lib.Seq.{sets}
 use lib.IntN.{pos, predℤ}
 use Rattle.palindromes.specs.Word.{Word}
 use Rattle.palindromes.specs.Node.{Node, imaginary, spelt, lengthOf, spellingOf, around}
+use Rattle.palindromes.proofs.Letters.{letter-byte}
 use Rattle.eertree.proofs.Rows.{imaginary-row, inner-falls}
 use Rattle.store.specs.Layout.{cell, lengthIn, innerIn, outerIn, usedIn}
 use Rattle.store.specs.Good.{ruleOf, nodeIn, Good}
 use Rattle.store.proofs.Parts.{sets-snoc, sets-cons}
-use Rattle.transitions.proofs.Letters.{letter-byte}
 use Rattle.transitions.proofs.Rows.{covers, length-row, outer-letter}
 
 module _ {b : Word} (g : Good b) (r : ℕ) (u : usedIn b r ≡ true) where

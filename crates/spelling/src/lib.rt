@@ -1,8 +1,9 @@
 // Spelling a row of a good store: how many letters its palindrome has, and the palindrome itself,
 // written outwards from the inner row into a lent buffer.
+use partners::partner_in;
+use partners::table;
 use store::header;
 use store::lengths;
-use store::letters::partner;
 use store::rows;
 use store::rows::Row;
 ghost use mathlib.Core.Path.{_≡_};
@@ -11,7 +12,8 @@ ghost use Prim.Native.Nat.{_+_, _≤_, _<_};
 ghost use lib.ListN.{length};
 ghost use lib.Seq.{sets};
 ghost use Rattle.palindromes.specs.Node.{spellingOf};
-ghost use Rattle.store.specs.Layout.{outerIn, usedIn};
+ghost use Rattle.partners.specs.Table.{PartnersIn};
+ghost use Rattle.store.specs.Layout.{readingIn, outerIn, usedIn};
 ghost use Rattle.store.specs.Good.{nodeIn, Good};
 
 // How many letters row r spells.
@@ -37,8 +39,8 @@ fn last_letter(b: &[u8], r: usize) -> u8
 
 // Writes row r's palindrome from the place `at` on: first what stands between its outer letters,
 // then these. The roots spell nothing.
-fn spell_at(b: &[u8], r: usize, out: &mut [u8], at: usize)
-    requires { ⌜ Good (now b) ⌝ }
+fn spell_at(b: &[u8], partners: &[u8; 256], r: usize, out: &mut [u8], at: usize)
+    requires { ⌜ Good (now b) × PartnersIn (readingIn (now b)) (now partners) ⌝ }
     requires { ⌜ usedIn (now b) r ≡ true ⌝ }
     requires { ⌜ at + length (spellingOf (nodeIn (now b) r)) ≤ length (now out) ⌝ }
     ensures { λ _. ⌜ now (out .exit) ≡ sets (now (out .entry)) at (spellingOf (nodeIn (now (b .entry)) r)) ⌝ }
@@ -52,8 +54,8 @@ fn spell_at(b: &[u8], r: usize, out: &mut [u8], at: usize)
         out[at] = c;
         return;
     }
-    spell_at(b, inner, out, at + 1);
-    out[at] = partner(header::reading(b), c);
+    spell_at(b, partners, inner, out, at + 1);
+    out[at] = partner_in(partners, c);
     out[at + spelling_length(b, r) - 1] = c;
 }
 
@@ -65,6 +67,7 @@ pub fn spell(b: &[u8], r: usize, out: &mut [u8]) -> usize
     ensures written { λ _. ⌜ now (out .exit) ≡ sets (now (out .entry)) 0 (spellingOf (nodeIn (now (b .entry)) r)) ⌝ }
     ensures letters { λ n. ⌜ n ≡ length (spellingOf (nodeIn (now (b .entry)) r)) ⌝ }
 {
-    spell_at(b, r, out, 0);
+    let partners = table(header::reading(b));
+    spell_at(b, &partners, r, out, 0);
     spelling_length(b, r)
 }

@@ -1,29 +1,20 @@
--- What the header of a store tells: how many letters stand and which rows may be used. And what is asked of the partner rules: each undoes itself, and the partner of a letter is a letter.
+-- What the header of a store tells: how many letters stand and which rows may be used.
 -- Assumes nothing.
 use Prim.Native.Nat.{ℕ, _+_, _<_}
 use native.Mathlib.Omega.{arith}
-use mathlib.Core.Path.{_≡_, refl}
+use mathlib.Core.Path.{_≡_}
 use mathlib.Core.Bool.{true, _&&_}
 use mathlib.Core.Logic.{⊎-elim}
 use lib.Dec.{ltb}
 use lib.ListN.{length, drop, length-drop}
 use lib.Seq.{length-take-le}
 use borrow.Author.Tests.{ltb-true}
-use Rattle.palindromes.specs.Word.{Word, isLetter}
-use Rattle.palindromes.specs.Palindrome.{SelfInverse}
+use Rattle.palindromes.specs.Word.{Word}
 use Rattle.palindromes.specs.Refusal.{storeSize}
 use Rattle.palindromes.proofs.Tests.{both-true}
 use Rattle.palindromes.proofs.Lists.{either-true}
 use Rattle.store.specs.Layout.{capacityIn, sizeIn, countIn, rankIn, usedIn, lettersAt, lettersIn}
-use Rattle.store.specs.Good.{ruleIn, Sized}
-
--- every partner rule undoes itself: here alone the rules are looked into
-pub rule-inverse : (reading : ℕ) → SelfInverse (ruleIn reading)
-rule-inverse reading x = refl
-
--- and the partner of a letter is a letter, so that a record is one of letters from both ends
-pub rule-letter : (reading c : ℕ) → isLetter c ≡ true → isLetter (ruleIn reading c) ≡ true
-rule-letter reading c h = h
+use Rattle.store.specs.Good.{Sized}
 
 -- as many letters stand as the store says
 pub letters-length : {b : Word} → Sized b → length (lettersIn b) ≡ sizeIn b

@@ -4,16 +4,13 @@ use mathlib.Core.Path.{_≡_}
 use mathlib.Core.Bool.{true, false}
 use lib.ListN.{length, getD}
 use Rattle.palindromes.specs.Word.{Word, allLetters}
+use Rattle.palindromes.specs.Reading.{ruleIn}
 use Rattle.palindromes.specs.Record.{count}
 use Rattle.palindromes.specs.End.{End, longestAt}
 use Rattle.palindromes.specs.Node.{Node, spelt}
 use Rattle.palindromes.specs.Eertree.{Table, Shows, nodeFrom}
 use Rattle.palindromes.specs.Refusal.{storeSize}
 use Rattle.store.specs.Layout.{cell, capacityIn, sizeIn, countIn, readingIn, endRow, lengthIn, linkIn, innerIn, outerIn, edgeIn, orderIn, rankIn, usedIn, lettersAt, lettersIn}
-
--- the partner rule of a reading: every letter is its own partner
-abbrev pub ruleIn : ℕ → ℕ → ℕ
-ruleIn reading x = x
 
 -- the partner rule that the store's record is read by
 abbrev pub ruleOf : Word → ℕ → ℕ
@@ -54,7 +51,7 @@ pub record EndIs (b : Word) (e : End) : Type 0 where
 -- of an accepted change follows: free rows, the roots' outer letters and the places after the last letter are zero
 pub record Good (b : Word) : Type 0 where
   pub sized : Sized b
-  pub reading : readingIn b ≡ 0
+  pub reading : readingIn b < 2
   pub letters : allLetters (lettersIn b) ≡ true
   pub table : Shows (ruleOf b) (lettersIn b) (tableIn b) (nodeIn b)
   pub count-is : countIn b ≡ count (ruleOf b) (lettersIn b)

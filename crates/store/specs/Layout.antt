@@ -33,7 +33,7 @@ sizeIn b = cell b 0 9
 unfoldable pub countIn : Word → ℕ
 countIn b = cell b 0 10
 
--- which partner rule the record is read by: 0 for the plain one
+-- how the record is read: 0 for a plain record, 1 for an inverted one
 unfoldable pub readingIn : Word → ℕ
 readingIn b = cell b 0 11
 

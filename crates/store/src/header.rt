@@ -31,7 +31,7 @@ pub fn count(b: &[u8]) -> usize
     cells::get(b, 0, 10)
 }
 
-// Which partner rule the record is read by.
+// How the record is read.
 pub fn reading(b: &[u8]) -> usize
     requires { ⌜ 48 ≤ length (now b) ⌝ }
     ensures { λ v. ⌜ (v ≡ readingIn (now (b .entry))) × (v < 65536) ⌝ }
@@ -79,6 +79,14 @@ pub fn set_count(b: &mut [u8], v: usize)
     ensures { λ _. ⌜ now (b .exit) ≡ setCell (now (b .entry)) 0 10 v ⌝ }
 {
     cells::put(b, 0, 10, v);
+}
+
+// Puts how the record is read.
+pub fn set_reading(b: &mut [u8], v: usize)
+    requires { ⌜ 48 ≤ length (now b) ⌝ }
+    ensures { λ _. ⌜ now (b .exit) ≡ setCell (now (b .entry)) 0 11 v ⌝ }
+{
+    cells::put(b, 0, 11, v);
 }
 
 // Puts the row of the longest palindrome at a side.

@@ -1,7 +1,6 @@
-// The end that a call works at, and the partner of a letter.
+// The end that a call works at.
 ghost use mathlib.Core.Path.{_≡_};
 ghost use Rattle.palindromes.specs.End.{other};
-ghost use Rattle.store.specs.Good.{ruleIn};
 ghost use Rattle.store.specs.Side.{endOf};
 
 // The end that a call works at.
@@ -18,11 +17,4 @@ pub fn other(side: Side) -> Side
         Side::Left => Side::Right,
         Side::Right => Side::Left,
     }
-}
-
-// The partner of a letter in a reading.
-pub fn partner(reading: usize, c: u8) -> u8
-    ensures { λ r. ⌜ r ≡ ruleIn reading c ⌝ }
-{
-    c
 }

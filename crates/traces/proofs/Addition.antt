@@ -9,6 +9,7 @@ use lib.ListN.{length}
 use borrow.Author.Tests.{ltb-true, ltb-false, not-true}
 use Rattle.palindromes.specs.Word.{Word, isLetter, sameWord}
 use Rattle.palindromes.specs.Palindrome.{Palindrome}
+use Rattle.palindromes.specs.Reading.{ruleIn}
 use Rattle.palindromes.specs.Place.{Stands, stands}
 use Rattle.palindromes.specs.End.{End, added, longestAt}
 use Rattle.palindromes.specs.Node.{spelt}
@@ -18,8 +19,8 @@ use Rattle.palindromes.proofs.Words.{stands-or-not}
 use Rattle.palindromes.proofs.Change.{new-is-longest}
 use Rattle.palindromes.proofs.Places.{stands-true, stands-is}
 use Rattle.palindromes.proofs.NewIn.{new-in-added, gone-in-added}
-use Rattle.store.specs.Good.{ruleIn, Good}
-use Rattle.store.proofs.Sizes.{rule-inverse}
+use Rattle.palindromes.proofs.Readings.{rule-inverse}
+use Rattle.store.specs.Good.{Good}
 use Rattle.transitions.specs.Rows.{rowOf, freeRow}
 use Rattle.transitions.specs.Addition.{longestAfter, bringsIn, rowAfter as rowAfterAddition, afterAddition}
 use Rattle.transitions.proofs.Rows.{row-of, row-of-node}

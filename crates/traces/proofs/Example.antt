@@ -10,14 +10,15 @@ use lib.Dec.{ltb}
 use lib.ListN.{length, getD, replicate, length-replicate}
 use Rattle.palindromes.specs.Word.{Word, isLetter, allLetters, sameWord}
 use Rattle.palindromes.specs.Palindrome.{mirror, isSymmetric, Palindrome}
+use Rattle.palindromes.specs.Reading.{asPlain, readingNumber, ruleIn}
 use Rattle.palindromes.specs.Place.{Stands, startsWith, placesFrom, places, frequency, stands, standsOnce}
 use Rattle.palindromes.specs.Record.{longestSuffix}
 use Rattle.palindromes.specs.End.{atLeft, atRight, added, removed, withoutFirst, withoutLast, longestAt}
 use Rattle.palindromes.specs.Node.{linkOf, innerOf}
-use Rattle.palindromes.specs.Refusal.{theRow, spell, find, Call, opening, add, remove, ask, storeSize, refusal}
+use Rattle.palindromes.specs.Refusal.{theRow, spell, find, Call, opening, add, remove, ask, storeSize, faults, refusal}
 use Rattle.palindromes.proofs.Tests.{false-not-true}
 use Rattle.palindromes.proofs.Places.{stands-is}
-use Rattle.store.specs.Good.{ruleIn, ruleOf, Good}
+use Rattle.store.specs.Good.{ruleOf, Good}
 use Rattle.transitions.specs.Bytes.{Bytes}
 use Rattle.outcome.specs.Reply.{accepted, refusedWith, packed, refusalIn, unpacked}
 use Rattle.outcome.specs.Outcome.{Outcome, outcome, acceptedOutcome, changed, viewIn}
@@ -49,12 +50,12 @@ unfolding sevens storeSize
 room = omega (arith, length-replicate {A = ℕ} 400 7)
 
 abbrev opened : Outcome
-opened = outcome (opening 3) sevens nothing
+opened = outcome (opening asPlain 3) sevens nothing
 
-accepted-opening : outcome (opening 3) sevens nothing ≡ acceptedOutcome (opening 3) sevens nothing
-accepted-opening = carried-out (opening 3) sevens nothing (opening-accepted sevens nothing 3 refl room)
+accepted-opening : outcome (opening asPlain 3) sevens nothing ≡ acceptedOutcome (opening asPlain 3) sevens nothing
+accepted-opening = carried-out (opening asPlain 3) sevens nothing (opening-accepted sevens nothing asPlain 3 refl room)
 
-promise : OpeningPromise 3 sevens (packed (opened .reply)) (opened .store)
+promise : OpeningPromise asPlain 3 sevens (packed (opened .reply)) (opened .store)
 unfolding acceptedOutcome changed
 promise = record { left = record { reply = refl; store = refl; lent = sym (ap (λ (o : Outcome). o .lent) accepted-opening) } }
 
@@ -84,7 +85,7 @@ pub with-CA : List Step
 with-CA = more with-A (add atLeft 67)
 
 pub opening-tried : List Step
-opening-tried = more with-CA (opening 0)
+opening-tried = more with-CA (opening asPlain 0)
 
 pub N-tried : List Step
 N-tried = more opening-tried (add atRight 78)
@@ -105,11 +106,11 @@ pub calls : List Step
 calls = more A-tried (remove atRight)
 
 -- an opening for no letters is refused with 1, whatever the store
-zero-refused : (b : Word) → refusal (ruleOf b) (viewIn b nothing) (opening 0) ≡ 0 → ⊥
-zero-refused b z = omega (arith, opening-capacity b nothing 0 refl)
+zero-refused : (b : Word) → refusal (ruleOf b) (viewIn b nothing) (opening asPlain 0) ≡ 0 → ⊥
+zero-refused b z = omega (arith, opening-capacity b nothing asPlain 0 refl)
 
 one-more : {xs : List Step} → Run start xs → (call : Call) → MayStand call (storeAfter start xs) nothing → Run start (more xs call)
-one-more r call h = goes-on 3 sevens all-bytes (packed (opened .reply)) start promise answers-zero r call nothing h
+one-more r call h = goes-on asPlain 3 sevens all-bytes (packed (opened .reply)) start promise answers-zero r call nothing h
 
 run-to-CA : Run start with-CA
 unfolding with-CA with-A G-gone with-G
@@ -118,7 +119,7 @@ run-to-CA = let emptied = one-more (one-more begun (add atLeft 71) tt) (remove a
 run-to-row : Run start row-asked
 unfolding row-asked C-sought N-tried opening-tried
 run-to-row =
-    let tried = one-more (one-more run-to-CA (opening 0) (refl, zero-refused (storeAfter start with-CA))) (add atRight 78) tt in
+    let tried = one-more (one-more run-to-CA (opening asPlain 0) (refl, zero-refused (storeAfter start with-CA))) (add atRight 78) tt in
     one-more (one-more tried (ask (find (67 ∷ []))) tt) (ask (theRow 2)) tt
 
 pub a-run : Run start calls
@@ -126,7 +127,8 @@ unfolding calls A-tried with-CAC
 a-run = one-more (one-more (one-more run-to-row (add atRight 67) tt) (add atLeft 65) tt) (remove atRight) tt
 
 pub its-claims : Claims 0 3 start calls
-its-claims = every-list 3 sevens all-bytes (packed (opened .reply)) start promise answers-zero a-run
+unfolding readingNumber
+its-claims = every-list asPlain 3 sevens all-bytes (packed (opened .reply)) start promise answers-zero a-run
 
 -- ---- the letters, from the arguments alone
 
@@ -155,7 +157,7 @@ abbrev rowNow : Word → ℕ
 rowNow w = rowAfter 0 3 calls w
 
 letter : (c : ℕ) → Palindrome (ruleIn 0) (c ∷ [])
-unfolding mirror
+unfolding mirror ruleIn
 letter c = record { non-empty = cons-ne-nil c []; symmetric = refl }
 
 C-stands : Stands (67 ∷ []) (lettersAfter 3 calls)
@@ -221,7 +223,7 @@ removal-accepted : unpacked (answered A-tried (remove atRight)) .number ≡ 0
 removal-accepted = of-removal .removal atRight refl .accepted-if (λ e. cons-ne-nil 67 (65 ∷ 67 ∷ []) (sym letters-full ∙ e))
 
 pub CAC-went : unpacked (answered A-tried (remove atRight)) .flag ≡ true
-unfolding standsOnce frequency places placesFrom startsWith longestAt longestSuffix isSymmetric mirror sameWord
+unfolding standsOnce frequency places placesFrom startsWith longestAt longestSuffix isSymmetric mirror sameWord ruleIn
 CAC-went = of-removal .removal atRight refl .goes-out removal-accepted ∙ rw letters-full refl
 
 C-stood : Stands (67 ∷ []) (lettersAfter 3 A-tried)
@@ -252,13 +254,13 @@ of-refused-N : ClaimedOf opening-tried (add atRight 78)
 unfolding EachCall row-asked C-sought N-tried
 of-refused-N = each-to-row .1 .1 .0
 
-of-refused-opening : ClaimedOf with-CA (opening 0)
+of-refused-opening : ClaimedOf with-CA (opening asPlain 0)
 unfolding EachCall row-asked C-sought N-tried opening-tried
 of-refused-opening = each-to-row .1 .1 .1 .0
 
 -- the addition brings in CAC, which stood nowhere before
 pub CAC-came : unpacked (answered row-asked (add atRight 67)) .flag ≡ true
-unfolding stands frequency places placesFrom startsWith longestAt longestSuffix isSymmetric mirror sameWord added isLetter
+unfolding stands frequency places placesFrom startsWith longestAt longestSuffix isSymmetric mirror sameWord added isLetter ruleIn
 CAC-came =
     let claim = of-addition .addition atRight 67 refl in
     claim .comes-in (claim .accepted-if (rw before-CAC refl)) ∙ rw before-CAC refl
@@ -272,11 +274,12 @@ A-refused z =
 
 -- N is refused with 4 and the opening for no letters with 1, and what is refused leaves the store
 pub N-answers-four : refusalIn (answered opening-tried (add atRight 78)) ≡ 4
-unfolding isLetter
+unfolding isLetter refusal faults
 N-answers-four = of-refused-N .number-is ∙ add-letter (storeAfter start opening-tried) nothing atRight 78 refl
 
-pub opening-answers-one : refusalIn (answered with-CA (opening 0)) ≡ 1
-opening-answers-one = of-refused-opening .number-is ∙ opening-capacity (storeAfter start with-CA) nothing 0 refl
+pub opening-answers-one : refusalIn (answered with-CA (opening asPlain 0)) ≡ 1
+unfolding refusal faults
+opening-answers-one = of-refused-opening .number-is ∙ opening-capacity (storeAfter start with-CA) nothing asPlain 0 refl
 
 pub N-leaves-store : stepOf (add atRight 78) (storeAfter start opening-tried) nothing .store ≡ storeAfter start opening-tried
 N-leaves-store = of-refused-N .refused-leaves (λ z. omega (arith, N-answers-four)) .1
@@ -300,13 +303,13 @@ longer : Run start (first ∷ calls)
 longer = one-more a-run (add atRight 67) tt
 
 first-accepted : refusalIn (first .answer) ≡ 0
-unfolding EachCall isLetter unpacked
+unfolding EachCall isLetter unpacked readingNumber
 first-accepted =
-    let claims = every-list 3 sevens all-bytes (packed (opened .reply)) start promise answers-zero longer in
+    let claims = every-list asPlain 3 sevens all-bytes (packed (opened .reply)) start promise answers-zero longer in
     claims .each .0 .addition atRight 67 refl .accepted-if (rw letters-left refl)
 
 pub taken-back : Undone end 67 first second
 unfolding storeAfter
 taken-back =
     its-claims .undone atRight 67 first second refl (keeps-contract (add atRight 67) end nothing still-good tt) first-accepted refl
-    (keeps-contract (remove atRight) (first .store) nothing (always-good 3 sevens all-bytes (packed (opened .reply)) start promise answers-zero longer) tt)
+    (keeps-contract (remove atRight) (first .store) nothing (always-good asPlain 3 sevens all-bytes (packed (opened .reply)) start promise answers-zero longer) tt)

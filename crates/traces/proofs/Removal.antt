@@ -9,6 +9,7 @@ use lib.ListN.{length}
 use borrow.Author.Tests.{not-true}
 use Rattle.palindromes.specs.Word.{Word}
 use Rattle.palindromes.specs.Palindrome.{Palindrome}
+use Rattle.palindromes.specs.Reading.{ruleIn}
 use Rattle.palindromes.specs.Place.{Stands, stands}
 use Rattle.palindromes.specs.End.{End, removed, letterAt, longestAt}
 use Rattle.palindromes.specs.Node.{spelt}
@@ -18,9 +19,10 @@ use Rattle.palindromes.proofs.Words.{removed-empty, same-or-not}
 use Rattle.palindromes.proofs.Change.{stands-removed}
 use Rattle.palindromes.proofs.Places.{stands-is, stands-empty}
 use Rattle.palindromes.proofs.NewIn.{longest-at, gone-in-removed, new-in-removed}
+use Rattle.palindromes.proofs.Readings.{rule-inverse}
+use Rattle.palindromes.proofs.Answers.{once-only}
 use Rattle.store.specs.Layout.{usedIn, lettersIn}
-use Rattle.store.specs.Good.{ruleIn, nodeIn, Good}
-use Rattle.store.proofs.Sizes.{rule-inverse}
+use Rattle.store.specs.Good.{nodeIn, Good}
 use Rattle.transitions.specs.Rows.{rowOf}
 use Rattle.transitions.specs.Removal.{longestBefore, takesOut, afterRemoval}
 use Rattle.transitions.proofs.Rows.{row-of, row-of-node}
@@ -33,7 +35,6 @@ use Rattle.outcome.proofs.Replies.{reply-of-removed}
 use Rattle.outcome.proofs.Refusals.{remove-empty, remove-accepted, carried-out, refused-out}
 use Rattle.traces.proofs.State.{State, rule-is, size-is}
 use Rattle.traces.proofs.Shared.{moved, number-zero, zero-first}
-use Rattle.palindromes.proofs.Answers.{once-only}
 
 -- a row that is used after a removal was used before it, for the same repeat
 kept-before : (e : End) (b : Word) → Transitions·Removed.Removed e b → (r : ℕ) → usedIn (afterRemoval e b) r ≡ true → (usedIn b r ≡ true) × (nodeIn (afterRemoval e b) r ≡ nodeIn b r)

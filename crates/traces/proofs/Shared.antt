@@ -5,12 +5,12 @@ use mathlib.Core.Bool.{Bool, false, cond, not}
 use mathlib.Core.List.{[]}
 use borrow.Author.Tests.{not-true, not-false}
 use Rattle.palindromes.specs.Word.{Word}
+use Rattle.palindromes.specs.Reading.{ruleIn}
 use Rattle.palindromes.specs.Place.{stands}
 use Rattle.palindromes.specs.End.{newIn}
 use Rattle.palindromes.proofs.Tests.{false-not-true}
 use Rattle.palindromes.proofs.Places.{stands-true, stands-is}
 use Rattle.palindromes.proofs.Palindromes.{fresh, fresh-old, fresh-new}
-use Rattle.store.specs.Good.{ruleIn}
 use Rattle.outcome.specs.Reply.{Reply, accepted}
 use Rattle.traces.specs.Claims.{Moved}
 

@@ -5,10 +5,11 @@ use mathlib.Core.Path.{_≡_, sym, ap, _∙_}
 use lib.ListN.{length, getD}
 use Rattle.palindromes.specs.Word.{Word}
 use Rattle.palindromes.specs.Palindrome.{Palindrome}
+use Rattle.palindromes.specs.Reading.{ruleIn}
 use Rattle.palindromes.specs.Place.{Stands}
 use Rattle.palindromes.specs.Node.{spelt}
 use Rattle.store.specs.Layout.{capacityIn, sizeIn, readingIn, lettersIn}
-use Rattle.store.specs.Good.{ruleIn, ruleOf, Good}
+use Rattle.store.specs.Good.{ruleOf, Good}
 use Rattle.store.proofs.Sizes.{letters-length}
 use Rattle.transitions.specs.Rows.{rowOf}
 

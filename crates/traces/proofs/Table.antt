@@ -7,6 +7,7 @@ use native.Mathlib.Omega.{arith}
 use lib.ListN.{length}
 use Rattle.palindromes.specs.Word.{Word, allLetters, member}
 use Rattle.palindromes.specs.Palindrome.{Palindrome}
+use Rattle.palindromes.specs.Reading.{ruleIn}
 use Rattle.palindromes.specs.Place.{Stands}
 use Rattle.palindromes.specs.Record.{palindromes}
 use Rattle.palindromes.specs.Node.{Node, imaginary, spelt, lengthOf, linkOf, innerOf, spellingOf}
@@ -20,7 +21,7 @@ use Rattle.eertree.specs.Entries.{IsEertree}
 use Rattle.eertree.proofs.Entries.{is-eertree}
 use Rattle.eertree.proofs.Rows.{word-row, row-high}
 use Rattle.store.specs.Layout.{usedIn, lettersIn}
-use Rattle.store.specs.Good.{ruleIn, ruleOf, tableIn, nodeIn, Good}
+use Rattle.store.specs.Good.{ruleOf, tableIn, nodeIn, Good}
 use Rattle.store.proofs.Sizes.{used-below}
 use Rattle.transitions.specs.Rows.{rowOf}
 use Rattle.transitions.proofs.Rows.{covers, row-of, row-of-node, row-of-imaginary, row-of-empty}

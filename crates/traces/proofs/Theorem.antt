@@ -9,21 +9,23 @@ use lib.ListN.{length, set, replicate}
 use lib.Seq.{sets}
 use Rattle.palindromes.specs.Word.{Word}
 use Rattle.palindromes.specs.Palindrome.{Palindrome}
+use Rattle.palindromes.specs.Reading.{Reading, readingNumber, ruleIn}
 use Rattle.palindromes.specs.Place.{Stands}
 use Rattle.palindromes.specs.End.{End, removed, letterAt}
 use Rattle.palindromes.specs.Node.{Node, imaginary, spelt, linkOf, innerOf}
 use Rattle.palindromes.specs.Refusal.{Question, theRow, find, Call, opening, add, remove, ask, storeSize, refusal}
 use Rattle.palindromes.proofs.Words.{stands-of-empty}
+use Rattle.palindromes.proofs.Readings.{number-below}
 use Rattle.eertree.specs.Covers.{NodeOf}
 use Rattle.store.specs.Layout.{lettersIn}
-use Rattle.store.specs.Good.{ruleIn, ruleOf, Good}
+use Rattle.store.specs.Good.{ruleOf, Good}
 use Rattle.transitions.specs.Opening.{usedBytes, openingWrites, opened}
 use Rattle.transitions.specs.Rows.{rowOf}
 use Rattle.transitions.specs.Addition.{bringsIn, rowAfter as rowAfterAddition}
 use Rattle.transitions.specs.Removal.{longestBefore, takesOut}
 use Rattle.transitions.specs.Bytes.{Bytes}
 use Rattle.transitions.proofs.AddedRuns.{bytes-set, bytes-writes}
-use Rattle.transitions.proofs.Opening.{opened-capacity, opened-letters, opened-good}
+use Rattle.transitions.proofs.Opening.{opened-capacity, opened-reading, opened-letters, opened-good}
 use Rattle.outcome.specs.Reply.{Reply, packed, accepted, refusedWith, refusalIn, unpacked}
 use Rattle.outcome.specs.Outcome.{Lent, Outcome, viewIn, changed, acceptedOutcome, refusedOutcome, unlessRefused, outcome}
 use Rattle.outcome.specs.Promise.{nothing, OpeningPromise}
@@ -44,7 +46,7 @@ use Rattle.traces.proofs.Undone.{good-now, undone-claim}
 pub number-of : (n : ℕ) (call : Call) (b : Word) (l : Lent) → unlessRefused n call b l .reply .number ≡ n
 unfolding unlessRefused refusedOutcome refusedWith acceptedOutcome changed accepted
 number-of (suc n) call b l = refl
-number-of zero (opening k) b l = refl
+number-of zero (opening way k) b l = refl
 number-of zero (add e c) b l = ap (λ (r : Reply). r .number) (reply-of-added (bringsIn e c b) (rowAfterAddition e c b))
 number-of zero (remove e) b l = ap (λ (r : Reply). r .number) (reply-of-removed (takesOut e b) (letterAt e (lettersIn b)) (rowOf b (spelt (longestBefore e b))))
 number-of zero (ask q) b l = refl
@@ -80,7 +82,7 @@ module _ (m k : ℕ) (s : Word) (row : Word → ℕ) (b : Word) (st : State m k 
   came x p = go (x .call) refl p
     where
       go : (call : Call) → x .call ≡ call → Stated call b (x .lent) (x .answer) (x .store) (x .after) → Told (outcome call b (x .lent)) (x .answer) (x .store) (x .after)
-      go (opening n) e p = opening-told (p .0) (p .1)
+      go (opening way n) e p = opening-told (p .0) (p .1)
       go (add e c) f p = told (st .good) p
       go (remove e) f p = told (st .good) p
       go (ask q) f p = told (st .good) p
@@ -93,9 +95,9 @@ module _ (m k : ℕ) (s : Word) (row : Word → ℕ) (b : Word) (st : State m k 
   answered-number x p = ap (λ (r : Reply). r .number) (came x p .reply) ∙ number-of (numberOfCall x) (x .call) b (x .lent)
 
   -- an opening of a list is refused
-  opening-refused : (x : Step) (n : ℕ) → x .call ≡ opening n → Keeps b x → refusalIn (x .answer) ≡ 0 → ⊥
+  opening-refused : (x : Step) (way : Reading) (n : ℕ) → x .call ≡ opening way n → Keeps b x → refusalIn (x .answer) ≡ 0 → ⊥
   unfolding Stated
-  opening-refused x n e p = subst (λ (call : Call). Stated call b (x .lent) (x .answer) (x .store) (x .after)) e p .2
+  opening-refused x way n e p = subst (λ (call : Call). Stated call b (x .lent) (x .answer) (x .store) (x .after)) e p .2
 
   refused-outcome : (x : Step) → Keeps b x → (refusalIn (x .answer) ≡ 0 → ⊥) → outcome (x .call) b (x .lent) ≡ refusedOutcome (refusalIn (x .answer)) b (x .lent)
   unfolding outcome
@@ -122,7 +124,7 @@ module _ (m k : ℕ) (s : Word) (row : Word → ℕ) (b : Word) (st : State m k 
       told-of call e = subst (λ (y : Call). Told (outcome y b (x .lent)) (x .answer) (x .store) (x .after)) e (came x p)
 
       go : (call : Call) → x .call ≡ call → State m k (lettersStep k s call) (rowStep m s call (unpacked (x .answer)) row) (x .store)
-      go (opening n) e = subst (State m k s row) (sym (refused-store x p (opening-refused x n e p))) st
+      go (opening way n) e = subst (State m k s row) (sym (refused-store x p (opening-refused x way n e p))) st
       go (add e c) f =
           let t = told-of (add e c) f in
           subst₂ (λ (r : Reply) (y : Word). State m k (lettersStep k s (add e c)) (rowStep m s (add e c) r row) y) (sym (t .reply)) (sym (t .store)) (add-state m k s row b st e c (x .lent))
@@ -137,7 +139,7 @@ module _ (m k : ℕ) (s : Word) (row : Word → ℕ) (b : Word) (st : State m k 
   keeps x p w q = go (x .call) refl
     where
       go : (call : Call) → x .call ≡ call → rowStep m s call (unpacked (x .answer)) row w ≡ row w
-      go (opening n) e = refl
+      go (opening way n) e = refl
       go (add e c) f =
           ap (λ (r : Reply). rowStep m s (add e c) r row w) (came x p .reply ∙ ap (λ (call : Call). outcome call b (x .lent) .reply) f) ∙ add-keeps m k s row b st e c (x .lent) w q
       go (remove e) f = refl
@@ -253,37 +255,40 @@ zeros-bytes : (n at : ℕ) (b : Word) → Bytes b → Bytes (sets b at (replicat
 zeros-bytes zero at b h = h
 zeros-bytes (suc n) at b h = zeros-bytes n (suc at) (set b at 0) (bytes-set b at 0 h (omega arith))
 
--- the state right after an accepted opening
-opened-state : (k : ℕ) (b₀ : Word) → Bytes b₀ → (1 ≤ k) × (k ≤ 1024) × (storeSize k ≤ length b₀) → State 0 k [] (λ w. zero) (opened k b₀)
+-- the state right after an accepted opening, in either reading
+opened-state : (way : Reading) (k : ℕ) (b₀ : Word) → Bytes b₀ → (1 ≤ k) × (k ≤ 1024) × (storeSize k ≤ length b₀) → State (readingNumber way) k [] (λ w. zero) (opened (readingNumber way) k b₀)
 unfolding opened
-opened-state k b₀ h r =
-    let good = opened-good k b₀ (r .1) (r .2) (r .0) in
+opened-state way k b₀ h r =
+    let m = number-below way in
     record {
-      good = good;
-      capacity = opened-capacity k b₀ (r .1) (r .2);
-      reading = good .reading;
-      letters = opened-letters k b₀ (r .1) (r .2);
+      good = opened-good (readingNumber way) k b₀ m (r .1) (r .2) (r .0);
+      capacity = opened-capacity (readingNumber way) k b₀ m (r .1) (r .2);
+      reading = opened-reading (readingNumber way) k b₀ m (r .1) (r .2);
+      letters = opened-letters (readingNumber way) k b₀ m (r .1) (r .2);
       rows = λ w p q. absurd (p .non-empty (stands-of-empty q));
-      bytes = bytes-writes (openingWrites k) (sets b₀ 0 (replicate (usedBytes k) 0)) (zeros-bytes (usedBytes k) 0 b₀ h);
+      bytes = bytes-writes (openingWrites (readingNumber way) k) (sets b₀ 0 (replicate (usedBytes k) 0)) (zeros-bytes (usedBytes k) 0 b₀ h);
     }
 
 -- an opening that answers 0 was accepted, and leaves what `opened` says
-opened-store : (k : ℕ) (b₀ : Word) (a : ℕ) (b : Word) → OpeningPromise k b₀ a b → refusalIn a ≡ 0 → (refusal (ruleOf b₀) (viewIn b₀ nothing) (opening k) ≡ 0) × (b ≡ opened k b₀)
+opened-store : (way : Reading) (k : ℕ) (b₀ : Word) (a : ℕ) (b : Word) → OpeningPromise way k b₀ a b → refusalIn a ≡ 0
+    → (refusal (ruleOf b₀) (viewIn b₀ nothing) (opening way k) ≡ 0) × (b ≡ opened (readingNumber way) k b₀)
 unfolding unpacked outcome unlessRefused acceptedOutcome changed
-opened-store k b₀ a b p z =
+opened-store way k b₀ a b p z =
     let t = opening-told {l = nothing} p refl in
-    let n : refusal (ruleOf b₀) (viewIn b₀ nothing) (opening k) ≡ 0 =
-    sym (number-of (refusal (ruleOf b₀) (viewIn b₀ nothing) (opening k)) (opening k) b₀ nothing) ∙ ap (λ (r : Reply). r .number) (sym (t .reply)) ∙ z in
-    (n, t .store ∙ ap (λ (i : ℕ). unlessRefused i (opening k) b₀ nothing .store) n)
+    let n : refusal (ruleOf b₀) (viewIn b₀ nothing) (opening way k) ≡ 0 =
+    sym (number-of (refusal (ruleOf b₀) (viewIn b₀ nothing) (opening way k)) (opening way k) b₀ nothing) ∙ ap (λ (r : Reply). r .number) (sym (t .reply)) ∙ z in
+    (n, t .store ∙ ap (λ (i : ℕ). unlessRefused i (opening way k) b₀ nothing .store) n)
 
-module _ (k : ℕ) (b₀ : Word) (h : Bytes b₀) (a : ℕ) (b : Word) (p : OpeningPromise k b₀ a b) (z : refusalIn a ≡ 0) where
-  first-state : State 0 k [] (λ w. zero) b
-  first-state = let e = opened-store k b₀ a b p z in subst (State 0 k [] (λ w. zero)) (sym (e .1)) (opened-state k b₀ h (opening-room k b₀ nothing (e .0)))
+module _ (way : Reading) (k : ℕ) (b₀ : Word) (h : Bytes b₀) (a : ℕ) (b : Word) (p : OpeningPromise way k b₀ a b) (z : refusalIn a ≡ 0) where
+  first-state : State (readingNumber way) k [] (λ w. zero) b
+  first-state =
+      let e = opened-store way k b₀ a b p z in
+      subst (State (readingNumber way) k [] (λ w. zero)) (sym (e .1)) (opened-state way k b₀ h (opening-room way k b₀ nothing (e .0)))
 
-  -- THE THEOREM. For every capacity and every lent store on which an opening answers 0, and every list of calls that follows, whatever their arguments and buffers, if each
+  -- THE THEOREM. For either reading, every capacity and every lent store on which an opening answers 0, and every list of calls that follows, whatever their arguments and buffers, if each
   -- keeps the contract of its exported function: all that document 01 claims of lists of calls holds
-  pub every-list : {xs : List Step} → Run b xs → Claims 0 k b xs
-  every-list = claims 0 k b first-state
+  pub every-list : {xs : List Step} → Run b xs → Claims (readingNumber way) k b xs
+  every-list = claims (readingNumber way) k b first-state
 
   -- 01 "a store made by opening and accepted calls is always good"
   pub always-good : {xs : List Step} → Run b xs → Good (storeAfter b xs)

@@ -7,13 +7,14 @@ use lib.Dec.{ltb}
 use lib.ListN.{length}
 use borrow.Author.Tests.{ltb-true}
 use Rattle.palindromes.specs.Word.{Word, isLetter}
+use Rattle.palindromes.specs.Reading.{ruleIn}
 use Rattle.palindromes.specs.End.{End, added, letterAt, longestAt}
 use Rattle.palindromes.specs.Node.{spelt}
 use Rattle.palindromes.specs.Refusal.{add, remove}
 use Rattle.palindromes.proofs.Tests.{both-true}
 use Rattle.palindromes.proofs.Words.{added-not-empty, letter-added}
 use Rattle.store.specs.Layout.{capacityIn, sizeIn, lettersIn}
-use Rattle.store.specs.Good.{ruleIn, ruleOf, Good}
+use Rattle.store.specs.Good.{ruleOf, Good}
 use Rattle.transitions.specs.Rows.{rowOf, freeRow}
 use Rattle.transitions.specs.Addition.{longestAfter, bringsIn, afterAddition}
 use Rattle.transitions.specs.Removal.{longestBefore, takesOut, afterRemoval}

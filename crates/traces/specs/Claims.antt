@@ -9,13 +9,14 @@ use lib.Dec.{ltb}
 use lib.ListN.{length}
 use Rattle.palindromes.specs.Word.{Word, isLetter, allLetters}
 use Rattle.palindromes.specs.Palindrome.{Palindrome}
+use Rattle.palindromes.specs.Reading.{ruleIn}
 use Rattle.palindromes.specs.Place.{Stands, stands, standsOnce}
 use Rattle.palindromes.specs.End.{End, added, removed, letterAt, longestAt, newIn}
 use Rattle.palindromes.specs.Node.{Node, imaginary, spelt, linkOf, innerOf}
 use Rattle.palindromes.specs.Refusal.{Question, theRow, spell, find, add, remove, ask, refusal}
 use Rattle.eertree.specs.Entries.{IsEertree}
 use Rattle.store.specs.Layout.{capacityIn, readingIn, lettersIn}
-use Rattle.store.specs.Good.{ruleIn, tableIn, nodeIn, Good}
+use Rattle.store.specs.Good.{tableIn, nodeIn, Good}
 use Rattle.outcome.specs.Reply.{Reply, refusedWith, accepted, refusalIn, unpacked}
 use Rattle.outcome.specs.Outcome.{Lent, viewIn}
 use Rattle.outcome.specs.Promise.{Promise}

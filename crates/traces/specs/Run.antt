@@ -7,9 +7,9 @@ use mathlib.Core.List.{List, [], _∷_}
 use lib.Dec.{ltb}
 use lib.ListN.{length}
 use Rattle.palindromes.specs.Word.{Word, isLetter, sameWord}
+use Rattle.palindromes.specs.Reading.{ruleIn}
 use Rattle.palindromes.specs.End.{added, removed, longestAt}
 use Rattle.palindromes.specs.Refusal.{Call, opening, add, remove, ask}
-use Rattle.store.specs.Good.{ruleIn}
 use Rattle.outcome.specs.Reply.{Reply, refusalIn, unpacked}
 use Rattle.outcome.specs.Outcome.{Lent}
 use Rattle.outcome.specs.Promise.{Promise, OpeningPromise}
@@ -26,7 +26,7 @@ pub record Step : Type 0 where
 -- the contract of the exported function, in its own words. 01 "A list holds any store calls but accepted openings": an opening is a refused one, and it is
 -- lent nothing but the store
 unfoldable pub Stated : Call → Word → Lent → ℕ → Word → Lent → Type 0
-Stated (opening k) b l a b′ l′ = OpeningPromise k b a b′ × (l′ ≡ l) × (refusalIn a ≡ 0 → ⊥)
+Stated (opening way k) b l a b′ l′ = OpeningPromise way k b a b′ × (l′ ≡ l) × (refusalIn a ≡ 0 → ⊥)
 Stated (add e c) b l a b′ l′ = Promise (add e c) b l a b′ l′
 Stated (remove e) b l a b′ l′ = Promise (remove e) b l a b′ l′
 Stated (ask q) b l a b′ l′ = Promise (ask q) b l a b′ l′
@@ -48,7 +48,7 @@ pub data Run (b : Word) : List Step → Type 0 where
 -- the letters after one more call: 01 "an addition is accepted exactly if its letter is valid and the record is below full length; the letter then joins
 -- that end. A removal is accepted exactly if a letter stands; the one at that end then goes. Every other call, and every refused one, leaves the letters"
 unfoldable pub lettersStep : ℕ → Word → Call → Word
-lettersStep k s (opening n) = s
+lettersStep k s (opening way n) = s
 lettersStep k s (add e c) = cond (isLetter c && ltb (length s) k) (added e c s) s
 lettersStep k s (remove e) = removed e s
 lettersStep k s (ask q) = s
@@ -61,7 +61,7 @@ lettersAfter k (x ∷ xs) = lettersStep k (lettersAfter k xs) (x .call)
 -- the row of a repeat after one more call, in the reading m: an addition that answers 1 brings in the longest repeat at its end, with the row that it
 -- answers
 unfoldable pub rowStep : ℕ → Word → Call → Reply → (Word → ℕ) → Word → ℕ
-rowStep m s (opening n) r old w = old w
+rowStep m s (opening way n) r old w = old w
 rowStep m s (add e c) r old w = cond (r .flag && sameWord w (longestAt (ruleIn m) e (added e c s))) (r .row) (old w)
 rowStep m s (remove e) r old w = old w
 rowStep m s (ask q) r old w = old w

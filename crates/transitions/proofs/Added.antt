@@ -17,9 +17,9 @@ use Rattle.palindromes.specs.Node.{spelt}
 use Rattle.palindromes.proofs.Tests.{not-true-false, false-not-true}
 use Rattle.palindromes.proofs.NewIn.{count-added}
 use Rattle.palindromes.proofs.Across.{whole-at, whole-test, across-added}
+use Rattle.palindromes.proofs.Readings.{rule-inverse}
 use Rattle.store.specs.Layout.{cell, capacityIn, sizeIn, countIn, readingIn, endRow, outerIn, orderIn, rankIn, usedIn, lettersAt, lettersIn}
 use Rattle.store.specs.Good.{ruleOf, nodeIn, Sized, OrderIs, RankIs, EndIs, Good}
-use Rattle.store.proofs.Sizes.{rule-inverse}
 use Rattle.transitions.specs.Rows.{rowOf, freeRow}
 use Rattle.transitions.specs.Opening.{usedBytes}
 use Rattle.transitions.specs.Addition.{longestAfter, bringsIn, rowAfter, afterAddition}
@@ -147,7 +147,7 @@ module _ {e : End} {c : ℕ} {b : Word} (a : Accepted e c b) where
   good-after =
       record {
         sized = sized-after;
-        reading = reading-after a ∙ a .good .reading;
+        reading = rw (reading-after a) (a .good .reading);
         letters = rw (letters-are a) (letters-after a);
         table = table-after a;
         count-is = rw (rule-after a, letters-are a) count-after;

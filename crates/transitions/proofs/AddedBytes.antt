@@ -13,6 +13,7 @@ use Rattle.palindromes.specs.Word.{Word}
 use Rattle.palindromes.specs.End.{End, atLeft, atRight, other, added}
 use Rattle.palindromes.specs.Node.{spelt, linkOf}
 use Rattle.palindromes.specs.Refusal.{storeSize}
+use Rattle.palindromes.proofs.Letters.{letter-byte}
 use Rattle.store.specs.Layout.{cell, capacityIn, sizeIn, countIn, readingIn, endCell, endRow, edgeCell, linkIn, innerIn, outerIn, edgeIn, orderIn, rankIn, lettersAt, lettersIn}
 use Rattle.store.specs.Good.{ruleOf, Sized}
 use Rattle.store.specs.Writes.{Write}
@@ -23,7 +24,6 @@ use Rattle.store.proofs.Sizes.{used-below}
 use Rattle.transitions.specs.Rows.{rowOf, freeRow}
 use Rattle.transitions.specs.Opening.{usedBytes}
 use Rattle.transitions.specs.Addition.{longestAfter, bringsIn, rowAfter, hangWrites, settleWrites, additionWrites, afterAddition}
-use Rattle.transitions.proofs.Letters.{letter-byte}
 use Rattle.transitions.proofs.Rows.{row-fits, free-row, free-below, row-of-small, size-small, count-small, length-small, stored-length}
 use Rattle.transitions.specs.Bytes.{Bytes}
 use Rattle.transitions.proofs.AddedRuns.{Misses, Puts, look-misses, misses-after, look-puts, puts-after, bytes-sets, bytes-writes}

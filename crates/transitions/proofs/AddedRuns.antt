@@ -13,10 +13,10 @@ use lib.Seq.{sets, set-out, getD-set-same, getD-set-other}
 use borrow.Author.Tests.{eqb-true, eq-eqb}
 use Rattle.palindromes.specs.Word.{Word, isLetter, allLetters}
 use Rattle.palindromes.proofs.Tests.{both-true, both-are, not-true-false}
+use Rattle.palindromes.proofs.Letters.{letter-byte}
 use Rattle.store.specs.Layout.{cellAt, setCell}
 use Rattle.store.specs.Writes.{Write, writes}
 use Rattle.store.proofs.Writes.{look}
-use Rattle.transitions.proofs.Letters.{letter-byte}
 use Rattle.transitions.specs.Bytes.{Bytes}
 
 -- ---- a cell after a run of writes

@@ -10,20 +10,22 @@ use mathlib.Core.Logic.{_⊎_, inl, inr, ⊎-elim}
 use lib.Dec.{eqb}
 use borrow.Author.Tests.{eqb-true, eq-eqb, ne-eqb, lt-ltb}
 use Rattle.palindromes.specs.Word.{Word}
+use Rattle.palindromes.specs.Reading.{ruleIn}
 use Rattle.palindromes.specs.End.{End, added}
 use Rattle.palindromes.specs.Node.{Node, spelt, around}
 use Rattle.palindromes.specs.Eertree.{Shows, nodeFrom}
 use Rattle.palindromes.proofs.Tests.{both-true, both-are, false-not-true, decided}
 use Rattle.palindromes.proofs.Lists.{either-true, left-is, right-is, same-test}
+use Rattle.palindromes.proofs.Readings.{rule-inverse}
 use Rattle.eertree.specs.Covers.{Covers, EdgesEnd}
 use Rattle.eertree.proofs.Covers.{SamePalindromes, covers-renamed, covers-same, covers-shows, edges-end-renamed, edges-end-same}
 use Rattle.eertree.proofs.Rows.{reach-length}
 use Rattle.eertree.proofs.Nodes.{node-from}
 use Rattle.eertree.proofs.Grow.{OneMore, Hung, same-added, grow-new, grow-new-edges}
 use Rattle.store.specs.Layout.{cell, capacityIn, countIn, readingIn, edgeCell, lengthIn, linkIn, innerIn, outerIn, edgeIn, rankIn, usedIn, lettersIn}
-use Rattle.store.specs.Good.{ruleIn, ruleOf, tableIn, nodeIn}
+use Rattle.store.specs.Good.{ruleOf, tableIn, nodeIn}
 use Rattle.store.proofs.Edges.{edge-low, edge-high, edge-same}
-use Rattle.store.proofs.Sizes.{rule-inverse, used-below}
+use Rattle.store.proofs.Sizes.{used-below}
 use Rattle.transitions.specs.Rows.{freeRow}
 use Rattle.transitions.specs.Addition.{longestAfter, bringsIn, afterAddition}
 use Rattle.transitions.proofs.Rows.{covers, edges-end, count-most, used-root, used-is, used-rank, free-row, free-below}

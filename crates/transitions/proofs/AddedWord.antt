@@ -20,12 +20,13 @@ use Rattle.palindromes.proofs.Longest.{longest-suffix}
 use Rattle.palindromes.proofs.Places.{stands-true, stands-false, stands-empty}
 use Rattle.palindromes.proofs.NewIn.{longest-at}
 use Rattle.palindromes.proofs.Growth.{inner-of, link-stands, around-inner}
+use Rattle.palindromes.proofs.Readings.{rule-inverse}
 use Rattle.eertree.specs.Covers.{NodeOf}
 use Rattle.eertree.proofs.Rows.{reachOf, link-reach, inner-reach}
 use Rattle.eertree.proofs.Grow.{OneMore, one-more-added}
 use Rattle.store.specs.Layout.{capacityIn, sizeIn, readingIn, usedIn, lettersIn}
 use Rattle.store.specs.Good.{ruleOf, nodeIn, Good}
-use Rattle.store.proofs.Sizes.{rule-inverse, letters-length}
+use Rattle.store.proofs.Sizes.{letters-length}
 use Rattle.transitions.specs.Rows.{rowOf}
 use Rattle.transitions.specs.Addition.{longestAfter, bringsIn}
 use Rattle.transitions.proofs.Letters.{letters-piece, letters-added, letter-at-end}

@@ -12,6 +12,7 @@ use mathlib.Core.Logic.{⊎-elim}
 use lib.ListN.{length, getD}
 use lib.Seq.{ext-getD}
 use Rattle.palindromes.specs.Word.{Word, isLetter, member}
+use Rattle.palindromes.specs.Reading.{ruleIn}
 use Rattle.palindromes.specs.Record.{palindromes}
 use Rattle.palindromes.specs.End.{End, atLeft, atRight}
 use Rattle.palindromes.specs.Node.{around}
@@ -55,11 +56,12 @@ module _ (b b′ : Word) (h : Bytes b) (h′ : Bytes b′) where
 
 -- ---- what two stores have in common
 
--- the two stores show the same letters and the same eertree in the same rows, and are equal where a store has no field: in the last two cells of a row other than row 0, and
+-- the two stores have the same reading, show the same letters and the same eertree in the same rows, and are equal where a store has no field: in the last two cells of a row other than row 0, and
 -- behind the places of the letters
 pub record Alike (b b′ : Word) : Type 0 where
   pub lengths : length b ≡ length b′
   pub capacity : capacityIn b ≡ capacityIn b′
+  pub reading : readingIn b ≡ readingIn b′
   pub letters : lettersIn b ≡ lettersIn b′
   pub used : (r : ℕ) → usedIn b r ≡ usedIn b′ r
   pub nodes : (r : ℕ) → usedIn b r ≡ true → nodeIn b r ≡ nodeIn b′ r
@@ -78,11 +80,14 @@ and-next P n below here f h = ⊎-elim (λ e. rw e here) (below f) (eq-or-lt-of-
 module _ {b b′ : Word} (g : Good b) (g′ : Good b′) (a : Alike b b′) where
   -- ---- the header
 
+  same-rule : ruleOf b ≡ ruleOf b′
+  same-rule = ap ruleIn (a .reading)
+
   same-size : sizeIn b ≡ sizeIn b′
   same-size = sym (letters-length (g .sized)) ∙ ap length (a .letters) ∙ letters-length (g′ .sized)
 
   same-count : countIn b ≡ countIn b′
-  same-count = cc (g .count-is, g′ .count-is, a .letters)
+  same-count = cc (g .count-is, g′ .count-is, a .letters, same-rule)
 
   -- ---- rows
 
@@ -91,7 +96,7 @@ module _ {b b′ : Word} (g : Good b) (g′ : Good b′) (a : Alike b b′) wher
   same-row r q u v e = g′ .table .one-row r q (sym (a .used r) ∙ u) v (sym (a .nodes r u) ∙ e)
 
   same-end : (e : End) → endRow b e ≡ endRow b′ e
-  same-end e = same-row (endRow b e) (endRow b′ e) (g .ends e .used) (g′ .ends e .used) (cc (g .ends e .holds, g′ .ends e .holds, a .letters))
+  same-end e = same-row (endRow b e) (endRow b′ e) (g .ends e .used) (g′ .ends e .used) (cc (g .ends e .holds, g′ .ends e .holds, a .letters, same-rule))
 
   -- what a used row says of its node
   module _ (r : ℕ) (u : usedIn b r ≡ true) where
@@ -105,7 +110,7 @@ module _ {b b′ : Word} (g : Good b) (g′ : Good b′) (a : Alike b b′) wher
     same-link =
         let h = g .table .link-is r u in
         let h′ = g′ .table .link-is r u′ in
-        same-row (linkIn b r) (linkIn b′ r) (h .0) (h′ .0) (cc (h .1, h′ .1, a .nodes r u))
+        same-row (linkIn b r) (linkIn b′ r) (h .0) (h′ .0) (cc (h .1, h′ .1, a .nodes r u, same-rule))
 
     same-inner : innerIn b r ≡ innerIn b′ r
     same-inner =
@@ -128,13 +133,13 @@ module _ {b b′ : Word} (g : Good b) (g′ : Good b′) (a : Alike b b′) wher
         e′ = g′ .table .edge-is r c u′ l
 
         same-word : member (around (ruleOf b) c (nodeIn b r)) (palindromes (ruleOf b) (lettersIn b)) ≡ member (around (ruleOf b′) c (nodeIn b′ r)) (palindromes (ruleOf b′) (lettersIn b′))
-        same-word = cc (a .nodes r u, a .letters)
+        same-word = cc (a .nodes r u, a .letters, same-rule)
 
         there : member (around (ruleOf b) c (nodeIn b r)) (palindromes (ruleOf b) (lettersIn b)) ≡ true → edgeIn b r c ≡ edgeIn b′ r c
         there m =
             let h = e .there m in
             let h′ = e′ .there (sym same-word ∙ m) in
-            same-row (edgeIn b r c) (edgeIn b′ r c) (h .0) (h′ .0) (cc (h .1, h′ .1, a .nodes r u))
+            same-row (edgeIn b r c) (edgeIn b′ r c) (h .0) (h′ .0) (cc (h .1, h′ .1, a .nodes r u, same-rule))
 
         nowhere : member (around (ruleOf b) c (nodeIn b r)) (palindromes (ruleOf b) (lettersIn b)) ≡ false → edgeIn b r c ≡ edgeIn b′ r c
         nowhere m = e .nowhere m ∙ sym (e′ .nowhere (sym same-word ∙ m))
@@ -183,7 +188,7 @@ module _ {b b′ : Word} (g : Good b) (g′ : Good b′) (a : Alike b b′) wher
   -- the header, the rows of both ends, and the order with the ranks
   last-cells : (r : ℕ) → r < capacityIn b + 2 → Agree b b′ r 8 × Agree b b′ r 9 × Agree b b′ r 10 × Agree b b′ r 11
   unfolding capacityIn sizeIn countIn readingIn endRow orderIn rankIn
-  last-cells zero l = (a .capacity, same-size, same-count, g .reading ∙ sym (g′ .reading))
+  last-cells zero l = (a .capacity, same-size, same-count, a .reading)
   last-cells (suc zero) l =
       (same-end atLeft, same-end atRight, a .spare 1 10 (omega arith) l (omega arith) (omega arith), a .spare 1 11 (omega arith) l (omega arith) (omega arith))
   last-cells (suc (suc i)) l = (

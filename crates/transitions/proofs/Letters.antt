@@ -1,7 +1,6 @@
--- Words of letters: a piece of such a word is one, a letter more at an end makes one of one, and what stands at either end of one that is not empty is a letter, and so a byte.
+-- Words of letters: a piece of such a word is one, a letter more at an end makes one of one, and what stands at either end of one that is not empty is a letter.
 -- Assumes nothing.
-use Prim.Native.Nat.{ℕ, _<_}
-use native.Mathlib.Omega.{arith}
+use Prim.Native.Nat.{ℕ}
 use mathlib.Core.Path.{_≡_, refl}
 use mathlib.Core.Bool.{true, _&&_, and-assoc, and-comm, and-true}
 use mathlib.Core.List.{[], _∷_, _++_}
@@ -9,12 +8,7 @@ use Rattle.palindromes.specs.Word.{Word, isLetter, allLetters}
 use Rattle.palindromes.specs.Place.{Stands}
 use Rattle.palindromes.specs.End.{End, atLeft, atRight, added, removed, letterAt}
 use Rattle.palindromes.proofs.Tests.{both-true}
-use Rattle.palindromes.proofs.Letters.{letter-cases}
 use Rattle.palindromes.proofs.Words.{added-removed}
-
--- a letter is a byte
-pub letter-byte : (c : ℕ) → isLetter c ≡ true → c < 256
-letter-byte = letter-cases (λ x. x < 256) (omega arith) (omega arith) (omega arith) (omega arith)
 
 -- two words joined are of letters exactly if both are
 pub letters-append : (u v : Word) → allLetters (u ++ v) ≡ (allLetters u && allLetters v)

@@ -86,11 +86,11 @@ abbrev cleared : ℕ → Word → Word
 cleared k b = sets b 0 (replicate (usedBytes k) 0)
 
 -- opening keeps the length
-pub opened-length : (k : ℕ) (b : Word) → length (opened k b) ≡ length b
+pub opened-length : (m k : ℕ) (b : Word) → length (opened m k b) ≡ length b
 unfolding opened
-opened-length k b = length-writes (cleared k b) (openingWrites k) ∙ length-sets b 0 (replicate (usedBytes k) 0)
+opened-length m k b = length-writes (cleared k b) (openingWrites m k) ∙ length-sets b 0 (replicate (usedBytes k) 0)
 
-module _ (k : ℕ) (b : Word) (high : k ≤ 1024) (long : storeSize k ≤ length b) where
+module _ (m k : ℕ) (b : Word) (reading : m < 2) (high : k ≤ 1024) (long : storeSize k ≤ length b) where
   -- the bytes in use, and the rows, lie within the store
   bytes-fit : usedBytes k ≤ length b
   unfolding storeSize
@@ -113,100 +113,105 @@ module _ (k : ℕ) (b : Word) (high : k ≤ 1024) (long : storeSize k ≤ length
 
   -- ---- what opening leaves
 
-  opening-fits : Fitting (cleared k b) (openingWrites k)
+  opening-fits : Fitting (cleared k b) (openingWrites m k)
   unfolding openingWrites
   opening-fits =
       let n = length-sets b 0 (replicate (usedBytes k) 0) in
       let l = bytes-fit in
-      fitting-append (cleared k b) (headWrites k) (orderWrites k) (omega arith) (order-fits (cleared k b) k high (omega arith))
+      fitting-append (cleared k b) (headWrites m k) (orderWrites k) (omega arith) (order-fits (cleared k b) k high (omega arith))
 
-  opening-below : RowsBelow (k + 2) (openingWrites k)
+  opening-below : RowsBelow (k + 2) (openingWrites m k)
   unfolding openingWrites
-  opening-below = below-append (k + 2) (headWrites k) (orderWrites k) (omega arith) (order-below k (k + 2) (omega arith))
+  opening-below = below-append (k + 2) (headWrites m k) (orderWrites k) (omega arith) (order-below k (k + 2) (omega arith))
 
   -- a cell of the opened store
-  opened-cell : (r f : ℕ) → r < k + 2 → f < 12 → cell (opened k b) r f ≡ look (orderWrites k) r f (look (headWrites k) r f 0)
+  opened-cell : (r f : ℕ) → r < k + 2 → f < 12 → cell (opened m k b) r f ≡ look (orderWrites k) r f (look (headWrites m k) r f 0)
   unfolding opened openingWrites
-  opened-cell r f h l = cell-writes (cleared k b) (openingWrites k) opening-fits r f l ∙ ap (look (openingWrites k) r f) (cleared-cell r f h l)
+  opened-cell r f h l = cell-writes (cleared k b) (openingWrites m k) opening-fits r f l ∙ ap (look (openingWrites m k) r f) (cleared-cell r f h l)
 
   -- a cell of a root, or one that is no place of the order and no rank
-  opened-head : (r f : ℕ) → r < k + 2 → f < 12 → (r < 2) ⊎ (f < 8) → cell (opened k b) r f ≡ look (headWrites k) r f 0
-  opened-head r f h l e = opened-cell r f h l ∙ order-keeps k r f (look (headWrites k) r f 0) e
+  opened-head : (r f : ℕ) → r < k + 2 → f < 12 → (r < 2) ⊎ (f < 8) → cell (opened m k b) r f ≡ look (headWrites m k) r f 0
+  opened-head r f h l e = opened-cell r f h l ∙ order-keeps k r f (look (headWrites m k) r f 0) e
 
   -- a root's cell
-  opened-root : (r f : ℕ) → r < 2 → f < 12 → cell (opened k b) r f ≡ look (headWrites k) r f 0
+  opened-root : (r f : ℕ) → r < 2 → f < 12 → cell (opened m k b) r f ≡ look (headWrites m k) r f 0
   opened-root r f h l = opened-head r f (omega arith) l (inl h)
 
   -- a free row is zero
-  opened-free : (r f : ℕ) → 2 ≤ r → r < k + 2 → f < 8 → cell (opened k b) r f ≡ 0
-  opened-free r f m h l =
+  opened-free : (r f : ℕ) → 2 ≤ r → r < k + 2 → f < 8 → cell (opened m k b) r f ≡ 0
+  opened-free r f n h l =
       let z = ne-eqb 0 r (λ e. omega arith) in
       let o = ne-eqb 1 r (λ e. omega arith) in
-      opened-head r f h (omega arith) (inr l) ∙ cc (z, o, and-false (eqb 8 f), and-false (eqb 0 f), and-false (eqb 9 f))
+      opened-head r f h (omega arith) (inr l) ∙ cc (z, o, and-false (eqb 8 f), and-false (eqb 11 f), and-false (eqb 0 f), and-false (eqb 9 f))
 
   -- place i of the order
-  opened-order : (i : ℕ) → i < k → orderIn (opened k b) i ≡ i + 2
+  opened-order : (i : ℕ) → i < k → orderIn (opened m k b) i ≡ i + 2
   unfolding orderIn
-  opened-order i h = opened-cell (i + 2) 8 (omega arith) (omega arith) ∙ order-holds k i (look (headWrites k) (i + 2) 8 0) h .0
+  opened-order i h = opened-cell (i + 2) 8 (omega arith) (omega arith) ∙ order-holds k i (look (headWrites m k) (i + 2) 8 0) h .0
 
   -- and the rank of the row that it holds
-  opened-rank : (i : ℕ) → i < k → rankIn (opened k b) (i + 2) ≡ i
+  opened-rank : (i : ℕ) → i < k → rankIn (opened m k b) (i + 2) ≡ i
   unfolding rankIn
-  opened-rank i h = opened-cell (i + 2) 9 (omega arith) (omega arith) ∙ order-holds k i (look (headWrites k) (i + 2) 9 0) h .1
+  opened-rank i h = opened-cell (i + 2) 9 (omega arith) (omega arith) ∙ order-holds k i (look (headWrites m k) (i + 2) 9 0) h .1
 
   -- ---- what an opened store shows
 
   -- the capacity that was asked for
-  pub opened-capacity : capacityIn (opened k b) ≡ k
+  pub opened-capacity : capacityIn (opened m k b) ≡ k
   unfolding capacityIn
   opened-capacity = opened-root 0 8 (omega arith) (omega arith)
 
-  opened-size : sizeIn (opened k b) ≡ 0
+  -- the reading that was asked for
+  pub opened-reading : readingIn (opened m k b) ≡ m
+  unfolding readingIn
+  opened-reading = opened-root 0 11 (omega arith) (omega arith)
+
+  opened-size : sizeIn (opened m k b) ≡ 0
   unfolding sizeIn
   opened-size = opened-root 0 9 (omega arith) (omega arith)
 
-  opened-count : countIn (opened k b) ≡ 0
+  opened-count : countIn (opened m k b) ≡ 0
   unfolding countIn
   opened-count = opened-root 0 10 (omega arith) (omega arith)
 
-  opened-end : (e : End) → endRow (opened k b) e ≡ 1
+  opened-end : (e : End) → endRow (opened m k b) e ≡ 1
   unfolding endRow
   opened-end atLeft = opened-root 1 8 (omega arith) (omega arith)
   opened-end atRight = opened-root 1 9 (omega arith) (omega arith)
 
   -- no letter
-  pub opened-letters : lettersIn (opened k b) ≡ []
+  pub opened-letters : lettersIn (opened m k b) ≡ []
   unfolding lettersIn
-  opened-letters = ap (λ (n : ℕ). take n (drop (lettersAt (capacityIn (opened k b))) (opened k b))) opened-size
+  opened-letters = ap (λ (n : ℕ). take n (drop (lettersAt (capacityIn (opened m k b))) (opened m k b))) opened-size
 
   -- no row in use but the roots
-  pub opened-used : (r : ℕ) → 2 ≤ r → usedIn (opened k b) r ≡ false
-  opened-used r h = not-true-false (usedIn (opened k b) r) λ u. omega (arith, used-rank (opened k b) r h u, opened-count)
+  pub opened-used : (r : ℕ) → 2 ≤ r → usedIn (opened m k b) r ≡ false
+  opened-used r h = not-true-false (usedIn (opened m k b) r) λ u. omega (arith, used-rank (opened m k b) r h u, opened-count)
 
   -- what lies behind the bytes in use stays
-  pub opened-rest : drop (usedBytes k) (opened k b) ≡ drop (usedBytes k) b
+  pub opened-rest : drop (usedBytes k) (opened m k b) ≡ drop (usedBytes k) b
   unfolding opened
   opened-rest =
-      drop-writes (cleared k b) (openingWrites k) (k + 2) (usedBytes k) opening-below (omega arith)
+      drop-writes (cleared k b) (openingWrites m k) (k + 2) (usedBytes k) opening-below (omega arith)
       ∙ ap (drop (usedBytes k)) cleared-is
       ∙ drop-at (replicate (usedBytes k) 0) (drop (usedBytes k) b) (usedBytes k) (length-replicate (usedBytes k) 0)
 
   -- the places of the letters are zero
-  opened-places : (i : ℕ) → i < k → getD (opened k b) (lettersAt k + i) 0 ≡ 0
+  opened-places : (i : ℕ) → i < k → getD (opened m k b) (lettersAt k + i) 0 ≡ 0
   unfolding opened
   opened-places i h =
-      getD-writes (cleared k b) (openingWrites k) (k + 2) (lettersAt k + i) opening-below (omega arith) ∙ cleared-zero (lettersAt k + i) (omega arith)
+      getD-writes (cleared k b) (openingWrites m k) (k + 2) (lettersAt k + i) opening-below (omega arith) ∙ cleared-zero (lettersAt k + i) (omega arith)
 
   -- the rows in use are the roots, and they lead nowhere
-  opened-roots : Roots (tableIn (opened k b)) (nodeIn (opened k b))
+  opened-roots : Roots (tableIn (opened m k b)) (nodeIn (opened m k b))
   unfolding nodeIn lengthIn linkIn innerIn edgeIn
   opened-roots =
       record {
-        used-zero = used-root (opened k b) 0 (omega arith);
-        used-one = used-root (opened k b) 1 (omega arith);
+        used-zero = used-root (opened m k b) 0 (omega arith);
+        used-one = used-root (opened m k b) 1 (omega arith);
         only = λ r u. only r u (decLt r 2);
-        node-zero = root-zero (ruleOf (opened k b)) (innerIn (opened k b)) (outerIn (opened k b)) (capacityIn (opened k b) + 2);
-        node-one = root-one (ruleOf (opened k b)) (innerIn (opened k b)) (outerIn (opened k b)) (capacityIn (opened k b) + 2);
+        node-zero = root-zero (ruleOf (opened m k b)) (innerIn (opened m k b)) (outerIn (opened m k b)) (capacityIn (opened m k b) + 2);
+        node-one = root-one (ruleOf (opened m k b)) (innerIn (opened m k b)) (outerIn (opened m k b)) (capacityIn (opened m k b) + 2);
         length-zero = ap (λ (n : ℕ). predℤ (pos n)) (opened-root 0 0 (omega arith) (omega arith));
         length-one = ap (λ (n : ℕ). predℤ (pos n)) (opened-root 1 0 (omega arith) (omega arith));
         link = λ r h. root-field r 1 h (omega arith) (omega arith);
@@ -214,54 +219,54 @@ module _ (k : ℕ) (b : Word) (high : k ≤ 1024) (long : storeSize k ≤ length
         edge = λ r c h l. root-field r (edgeCell c) h (omega (arith, edge-low c)) (edge-high c);
       }
     where
-      only : (r : ℕ) → usedIn (opened k b) r ≡ true → Dec (r < 2) → r < 2
+      only : (r : ℕ) → usedIn (opened m k b) r ≡ true → Dec (r < 2) → r < 2
       only r u (yes h) = h
       only r u (no h) = absurd (false-not-true (opened-used r (omega arith)) u)
 
-      root-field : (r f : ℕ) → r < 2 → 1 ≤ f → f < 8 → cell (opened k b) r f ≡ 0
-      root-field r f h m l =
-          opened-root r f h (omega arith) ∙ cc (ne-eqb 8 f (λ e. omega arith), ne-eqb 0 f (λ e. omega arith), ne-eqb 9 f (λ e. omega arith))
+      root-field : (r f : ℕ) → r < 2 → 1 ≤ f → f < 8 → cell (opened m k b) r f ≡ 0
+      root-field r f h n l =
+          opened-root r f h (omega arith) ∙ cc (ne-eqb 8 f (λ e. omega arith), ne-eqb 11 f (λ e. omega arith), ne-eqb 0 f (λ e. omega arith), ne-eqb 9 f (λ e. omega arith))
 
-  opened-sized : 1 ≤ k → Sized (opened k b)
+  opened-sized : 1 ≤ k → Sized (opened m k b)
   unfolding storeSize
   opened-sized low =
       let c = opened-capacity in
       let n = opened-size in
-      let l = opened-length k b in
+      let l = opened-length m k b in
       record { at-least-one = omega arith; at-most = omega arith; long-enough = omega arith; letters-fit = omega arith }
 
   -- both ends are at the empty word
-  opened-ends : (e : End) → EndIs (opened k b) e
+  opened-ends : (e : End) → EndIs (opened m k b) e
   opened-ends e =
       record {
         used = rw (opened-end e) (opened-roots .used-one);
-        holds = cc (opened-end e, opened-roots .node-one, opened-letters, longest-empty (ruleOf (opened k b)) e);
+        holds = cc (opened-end e, opened-roots .node-one, opened-letters, longest-empty (ruleOf (opened m k b)) e);
       }
 
   -- the order is the rising one
-  opened-order-is : (i : ℕ) → i < k → OrderIs (opened k b) i
+  opened-order-is : (i : ℕ) → i < k → OrderIs (opened m k b) i
   opened-order-is i h =
       let o = opened-order i h in
       record { low = omega arith; high = omega (arith, opened-capacity); back = cc (o, opened-rank i h) }
 
-  opened-rank-is : (r : ℕ) → 2 ≤ r → r < k + 2 → RankIs (opened k b) r
+  opened-rank-is : (r : ℕ) → 2 ≤ r → r < k + 2 → RankIs (opened m k b) r
   opened-rank-is r l h =
       let e : r - 2 + 2 ≡ r = omega arith in
       let o = opened-rank (r - 2) (omega arith) in
-      let n : rankIn (opened k b) r ≡ r - 2 = cc in
+      let n : rankIn (opened m k b) r ≡ r - 2 = cc in
       record { high = omega (arith, opened-capacity); back = cc (n, opened-order (r - 2) (omega arith), e) }
 
   -- an opened store is good
-  pub opened-good : 1 ≤ k → Good (opened k b)
+  pub opened-good : 1 ≤ k → Good (opened m k b)
   unfolding readingIn outerIn allLetters
   opened-good low =
       let c = opened-capacity in
       record {
         sized = opened-sized low;
-        reading = opened-root 0 11 (omega arith) (omega arith);
+        reading = omega (arith, opened-reading);
         letters = rw opened-letters refl;
-        table = rw opened-letters (covers-shows (roots-cover (ruleOf (opened k b)) opened-roots) (roots-end (ruleOf (opened k b)) opened-roots));
-        count-is = cc (opened-count, opened-letters, count-empty (ruleOf (opened k b)));
+        table = rw opened-letters (covers-shows (roots-cover (ruleOf (opened m k b)) opened-roots) (roots-end (ruleOf (opened m k b)) opened-roots));
+        count-is = cc (opened-count, opened-letters, count-empty (ruleOf (opened m k b)));
         ends = opened-ends;
         order = λ i h. opened-order-is i (omega arith);
         rank = λ r l h. opened-rank-is r l (omega arith);
@@ -270,6 +275,6 @@ module _ (k : ℕ) (b : Word) (high : k ≤ 1024) (long : storeSize k ≤ length
         free-places = λ i l h. rw c (opened-places i (omega arith));
       }
     where
-      free : (r f : ℕ) → r < capacityIn (opened k b) + 2 → usedIn (opened k b) r ≡ false → f < 8 → Dec (r < 2) → cell (opened k b) r f ≡ 0
-      free r f h u l (yes q) = absurd (false-not-true u (used-root (opened k b) r q))
+      free : (r f : ℕ) → r < capacityIn (opened m k b) + 2 → usedIn (opened m k b) r ≡ false → f < 8 → Dec (r < 2) → cell (opened m k b) r f ≡ 0
+      free r f h u l (yes q) = absurd (false-not-true u (used-root (opened m k b) r q))
       free r f h u l (no q) = opened-free r f (omega arith) (omega (arith, opened-capacity)) l

@@ -77,7 +77,7 @@ module _ (e : End) {b : Word} (g : Good b) (n : 0 < sizeIn b) where
   good-left =
       record {
         sized = sized-left;
-        reading = reading-left e g ∙ g .reading;
+        reading = rw (reading-left e g) (g .reading);
         letters = rw (letters-are e g n) (letters-left e g n);
         table = table-left e g n;
         count-is = rw (rule-left e g, letters-are e g n) count-right;

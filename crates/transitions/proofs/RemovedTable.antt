@@ -10,6 +10,7 @@ use mathlib.Core.Logic.{_≢_, ⊎-elim}
 use lib.Dec.{eqb}
 use borrow.Author.Tests.{eq-eqb, ne-eqb}
 use Rattle.palindromes.specs.Word.{Word, isLetter}
+use Rattle.palindromes.specs.Reading.{ruleIn}
 use Rattle.palindromes.specs.Place.{Stands}
 use Rattle.palindromes.specs.End.{End, removed}
 use Rattle.palindromes.specs.Node.{spelt}
@@ -20,7 +21,7 @@ use Rattle.eertree.proofs.Covers.{covers-renamed, covers-same, covers-shows, ed
 use Rattle.eertree.proofs.Nodes.{node-from}
 use Rattle.eertree.proofs.Shrink.{Dropped, shrink, shrink-edges, leaf-inners, leaf-edges}
 use Rattle.store.specs.Layout.{cell, capacityIn, sizeIn, endRow, edgeCell, lengthIn, linkIn, innerIn, outerIn, edgeIn, usedIn, lettersIn}
-use Rattle.store.specs.Good.{ruleIn, ruleOf, tableIn, nodeIn, Good}
+use Rattle.store.specs.Good.{ruleOf, tableIn, nodeIn, Good}
 use Rattle.store.proofs.Edges.{edge-low, edge-high, edge-same}
 use Rattle.store.proofs.Sizes.{used-below}
 use Rattle.transitions.specs.Removal.{longestBefore, takesOut, afterRemoval}

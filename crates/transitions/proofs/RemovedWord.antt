@@ -20,12 +20,13 @@ use Rattle.palindromes.proofs.Words.{added-removed, added-length}
 use Rattle.palindromes.proofs.Places.{stands-true, stands-false}
 use Rattle.palindromes.proofs.NewIn.{longest-at, count-removed}
 use Rattle.palindromes.proofs.Across.{whole-at, whole-test, across-added, across-whole}
+use Rattle.palindromes.proofs.Readings.{rule-inverse}
 use Rattle.eertree.specs.Covers.{NodeOf}
 use Rattle.eertree.proofs.Covers.{SamePalindromes}
 use Rattle.eertree.proofs.Grow.{OneMore, same-removed, one-more-removed}
 use Rattle.store.specs.Layout.{sizeIn, countIn, readingIn, lettersIn}
 use Rattle.store.specs.Good.{ruleOf, Good}
-use Rattle.store.proofs.Sizes.{rule-inverse, letters-length}
+use Rattle.store.proofs.Sizes.{letters-length}
 use Rattle.transitions.specs.Removal.{longestBefore, takesOut}
 use Rattle.transitions.proofs.Letters.{letters-added}
 

@@ -9,11 +9,12 @@ use mathlib.Core.Bool.{Bool, true, false}
 use mathlib.Core.Logic.{_≢_}
 use borrow.Author.Tests.{ne-eqb}
 use Rattle.palindromes.specs.Word.{Word, isLetter}
+use Rattle.palindromes.specs.Reading.{ruleIn}
 use Rattle.palindromes.specs.End.{End, removed}
 use Rattle.palindromes.proofs.Tests.{false-not-true}
 use Rattle.palindromes.proofs.Words.{removed-added}
 use Rattle.store.specs.Layout.{capacityIn, sizeIn, countIn, endRow, orderIn, usedIn, lettersIn}
-use Rattle.store.specs.Good.{ruleIn, Good}
+use Rattle.store.specs.Good.{Good}
 use Rattle.transitions.specs.Rows.{freeRow}
 use Rattle.transitions.specs.Opening.{usedBytes}
 use Rattle.transitions.specs.Addition.{longestAfter, bringsIn, afterAddition}
@@ -77,6 +78,7 @@ module _ (e : End) (c : ℕ) {b : Word} (g : Good b) (letter : isLetter c ≡ tr
       record {
         lengths = sym (went .length-same ∙ came .length-same);
         capacity = sym (went .capacity ∙ came .capacity);
+        reading = sym (went .reading ∙ came .reading);
         letters = sym (went .letters ∙ left-is);
         used = used-back;
         nodes = λ r u. sym (went .nodes r (sym (used-back r) ∙ u) ∙ came .old-row r u .1);

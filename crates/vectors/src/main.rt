@@ -3,7 +3,6 @@
 mod repeated;
 mod rich;
 mod show;
-mod tables;
 
 fn main() {
     figure_1_of_001();
@@ -45,7 +44,7 @@ fn section_2_2_of_004() {
 
 fn inverted_of_004() {
     show::title(b"004 inverted");
-    let rule = tables::inverted();
+    let rule = partners::table(1);
     show::list(&rule, b"ACCTGCAGGT");
     show::list(&rule, b"AGTCT");
 }

@@ -2,6 +2,7 @@
 pub mod Chains
 pub mod Found
 pub mod Towards
+pub mod Facing
 pub mod Stores
 pub mod Reading
 pub mod Right

@@ -24,13 +24,14 @@ use Rattle.palindromes.proofs.Words.{suffix-of-empty, suffix-stands, stands-of-
 use Rattle.palindromes.proofs.Longest.{longest-suffix}
 use Rattle.palindromes.proofs.Change.{at-most-one-new}
 use Rattle.palindromes.proofs.Places.{stands-true, stands-is, stands-empty}
+use Rattle.palindromes.proofs.Readings.{rule-inverse, rule-letter}
 use Rattle.eertree.specs.Covers.{NodeOf, Covers}
 use Rattle.eertree.proofs.Covers.{shows-covers}
 use Rattle.eertree.proofs.Rows.{word-row}
 use Rattle.eertree.proofs.Replay.{step-there}
 use Rattle.store.specs.Layout.{sizeIn, usedIn, readingIn, lettersIn}
 use Rattle.store.specs.Good.{ruleOf, tableIn, nodeIn, Good}
-use Rattle.store.proofs.Sizes.{rule-inverse, rule-letter, letters-length}
+use Rattle.store.proofs.Sizes.{letters-length}
 use Rattle.walk.specs.declared.Walked.the-variants.{At, Nothing}
 use Rattle.walk.specs.Walk.{Chain, Stepped, grown, ended}
 use Rattle.walk.specs.Replay.{lettersTowards, Holds, Surveyed}

@@ -5,9 +5,10 @@ use native.Mathlib.Omega.{arith}
 use mathlib.Core.Path.{_≡_, ap}
 use lib.ListN.{length}
 use Rattle.palindromes.specs.Word.{Word}
+use Rattle.palindromes.specs.Reading.{ruleIn}
 use Rattle.palindromes.specs.Refusal.{storeSize}
 use Rattle.store.specs.Layout.{capacityIn, sizeIn, usedIn, lettersAt, lettersIn}
-use Rattle.store.specs.Good.{ruleIn, ruleOf, Sized}
+use Rattle.store.specs.Good.{ruleOf, Sized}
 use Rattle.store.specs.Side.{endOf}
 use Rattle.store.specs.declared.letters.Side.{Side}
 use Rattle.store.proofs.Sizes.{used-below}
@@ -42,7 +43,7 @@ module _ {b : Word} {f : Frame} (h : Frames b f) where
 
   -- and so is the partner rule
   pub framed-rule : (d : ℕ) → partnerIn f d ≡ ruleOf b d
-  framed-rule d = ap (λ (x : ℕ). ruleIn x d) (h .reading-is)
+  framed-rule d = ap (λ (m : ℕ). ruleIn m d) (h .reading-is)
 
   -- and they lie within it; any number of them may have been read
   pub framed-within : Sized b → (k : ℕ) → k ≤ sizeIn b → Within b f k

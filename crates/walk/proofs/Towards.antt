@@ -22,7 +22,7 @@ use Rattle.palindromes.proofs.Words.{by-end, removed-added, removed-empty, adde
 use Rattle.palindromes.proofs.Mirror.{mirror-empty, mirror-cons, mirror-length, stands-in-mirror}
 use Rattle.palindromes.proofs.Longest.{longest-prefix}
 use Rattle.palindromes.proofs.Places.{stands-true, stands-is}
-use Rattle.alphabet.proofs.Letters.{letter-of}
+use Rattle.palindromes.proofs.Letters.{letter-of}
 use Rattle.eertree.specs.Covers.{Covers}
 use Rattle.eertree.proofs.Covers.{covers-mirror}
 use Rattle.store.specs.Writes.{towards}

@@ -3,8 +3,9 @@ use Prim.Native.Nat.{ℕ, _+_, _≤_, _<_}
 use mathlib.Core.Path.{_≡_}
 use lib.ListN.{length, take, drop}
 use Rattle.palindromes.specs.Word.{Word}
+use Rattle.palindromes.specs.Palindrome.{plain}
+use Rattle.palindromes.specs.Reading.{ruleIn}
 use Rattle.store.specs.Layout.{capacityIn, sizeIn, readingIn, lettersAt}
-use Rattle.store.specs.Good.{ruleIn}
 use Rattle.store.specs.Side.{endOf}
 use Rattle.store.specs.Writes.{towards}
 use Rattle.store.specs.declared.letters.Side.{Side}
@@ -17,13 +18,17 @@ pub record Frames (b : Word) (f : Frame) : Type 0 where
   pub size-is : f .n ≡ sizeIn b
   pub capacity-is : f .capacity ≡ capacityIn b
 
--- the letters of the frame, read towards a side
-abbrev pub seenIn : Word → Frame → Side → Word
-seenIn b f side = towards (ruleIn (f .reading)) (endOf side) (take (f .n) (drop (f .base) b))
-
 -- the partner of a letter
 abbrev pub partnerIn : Frame → ℕ → ℕ
 partnerIn f = ruleIn (f .reading)
+
+-- the letters of the frame as they stand, in the order in which they are read towards a side
+abbrev pub standingIn : Word → Frame → Side → Word
+standingIn b f side = towards plain (endOf side) (take (f .n) (drop (f .base) b))
+
+-- the letters of the frame, read towards a side: at the left they are the partners of those that stand
+abbrev pub seenIn : Word → Frame → Side → Word
+seenIn b f side = towards (partnerIn f) (endOf side) (take (f .n) (drop (f .base) b))
 
 -- the letters of the frame lie within the store, and k of them have been read
 pub record Within (b : Word) (f : Frame) (k : ℕ) : Type 0 where

@@ -8,6 +8,7 @@ use lib.Dec.{leb, eqb}
 use lib.ListN.{length, getD}
 use Rattle.palindromes.specs.Word.{Word}
 use Rattle.palindromes.specs.Record.{longestSuffix}
+use Rattle.palindromes.specs.End.{End, atLeft, atRight}
 use Rattle.palindromes.specs.Node.{Node, around}
 use Rattle.store.specs.Layout.{cell, linkIn, edgeIn}
 use Rattle.walk.specs.declared.Walked.{Walked}
@@ -16,6 +17,11 @@ use Rattle.walk.specs.declared.Walked.the-variants.{At, Nothing}
 -- the letter just before the palindrome of row r, which ends the first k letters, is `want`
 abbrev pub facesAt : Word → Word → ℕ → ℕ → ℕ → Bool
 facesAt b t k want r = leb (cell b r 0) k && eqb (getD t (k - cell b r 0) 0) want
+
+-- the letter that must stand before a palindrome for `want`, the partner of d, to be read there: at the left what is read is the partner of what stands
+abbrev pub facing : End → ℕ → ℕ → ℕ
+facing atRight d want = want
+facing atLeft d want = d
 
 -- the rows from r along the links lie within the store, their stored lengths fall, and the last is row 0
 pub data Chain (b : Word) : ℕ → Type 0 where

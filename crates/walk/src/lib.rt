@@ -11,12 +11,12 @@ ghost use mathlib.Core.Path.{_≡_};
 ghost use Prim.Native.Nat.{_+_, _*_, _≤_, _<_};
 ghost use lib.ListN.{length};
 ghost use Rattle.store.specs.Layout.{cell};
-ghost use Rattle.walk.specs.Frame.{seenIn, partnerIn, Within};
-ghost use Rattle.walk.specs.Walk.{facesAt, Chain, Meets, Stepped};
+ghost use Rattle.store.specs.Side.{endOf};
+ghost use Rattle.walk.specs.Frame.{standingIn, seenIn, partnerIn, Within};
+ghost use Rattle.walk.specs.Walk.{facesAt, facing, Chain, Meets, Stepped};
 use frame::Frame;
 use store::lengths;
 use store::lengths::Place;
-use store::letters;
 use store::letters::Side;
 use store::rows;
 use store::rows::Row;
@@ -27,31 +27,43 @@ pub enum Walked {
     Nothing,
 }
 
-// Whether the letter just before row's palindrome is `want`, the palindrome ending the first k
-// letters.
+// Whether the letter just before row's palindrome, as it stands, is `want`, the palindrome ending the
+// first k letters.
 pub fn faces(b: &[u8], f: Frame, side: Side, k: usize, row: usize, want: u8) -> bool
     requires { ⌜ Within (now b) f k ⌝ }
     requires { ⌜ (24 * row + 24 ≤ length (now b)) × (0 < cell (now b) row 0) ⌝ }
-    ensures { λ r. ⌜ r ≡ facesAt (now (b .entry)) (seenIn (now (b .entry)) f side) k want row ⌝ }
+    ensures { λ r. ⌜ r ≡ facesAt (now (b .entry)) (standingIn (now (b .entry)) f side) k want row ⌝ }
 {
     let place = lengths::before(k, rows::length_of(b, row));
     match place {
-        Place::At(i) => frame::seen(b, f, side, i) == want,
+        Place::At(i) => frame::standing(b, f, side, i) == want,
         Place::Outside => false,
     }
 }
 
-// The first row from `start` along the links that has the partner of d just before it; the
+// The letter that must stand before a palindrome for the partner of d to be read there. It is chosen
+// once for a walk, so that no comparison asks for a partner.
+fn facing_letter(side: Side, d: u8, want: u8) -> u8
+    ensures { λ r. ⌜ r ≡ facing (endOf side) d want ⌝ }
+{
+    match side {
+        Side::Right => want,
+        Side::Left => d,
+    }
+}
+
+// The first row from `start` along the links that has `want`, the partner of d, just before it; the
 // imaginary string has d itself.
-pub fn walk(b: &[u8], f: Frame, side: Side, k: usize, start: usize, d: u8) -> Walked
+pub fn walk(b: &[u8], f: Frame, side: Side, k: usize, start: usize, d: u8, want: u8) -> Walked
     requires { ⌜ Within (now b) f k ⌝ }
     requires { ⌜ Chain (now b) start ⌝ }
+    requires { ⌜ want ≡ partnerIn f d ⌝ }
     ensures { λ r. ⌜ Meets (now (b .entry)) (seenIn (now (b .entry)) f side) k d (partnerIn f d) start r ⌝ }
 {
-    let want = letters::partner(f.reading, d);
+    let facing = facing_letter(side, d, want);
     let mut row = start;
     while row != Row::IMAGINARY {
-        if faces(b, f, side, k, row, want) {
+        if faces(b, f, side, k, row, facing) {
             return Walked::At(row);
         }
         row = rows::link_of(b, row);
@@ -63,12 +75,13 @@ pub fn walk(b: &[u8], f: Frame, side: Side, k: usize, start: usize, d: u8) -> Wa
 }
 
 // The row at the edge that the walk found, and the empty string's where it found none.
-pub fn step(b: &[u8], f: Frame, side: Side, k: usize, start: usize, d: u8) -> usize
+pub fn step(b: &[u8], f: Frame, side: Side, k: usize, start: usize, d: u8, want: u8) -> usize
     requires { ⌜ Within (now b) f k ⌝ }
     requires { ⌜ Chain (now b) start ⌝ }
+    requires { ⌜ want ≡ partnerIn f d ⌝ }
     ensures { λ r. ⌜ Stepped (now (b .entry)) (seenIn (now (b .entry)) f side) k d (partnerIn f d) start r ⌝ }
 {
-    let found = walk(b, f, side, k, start, d);
+    let found = walk(b, f, side, k, start, d, want);
     match found {
         Walked::At(u) => rows::edge_of(b, u, d),
         Walked::Nothing => Row::EMPTY,

@@ -1,7 +1,7 @@
 -- `addition_call::add_letter` keeps the promise of an addition, and the row that it takes is free. Assumes nothing.
 use borrow.Author.Needs.{needs}
 use native.Mathlib.Omega.{arith}
-use Rattle.transitions.proofs.Letters.{letter-byte}
+use Rattle.palindromes.proofs.Letters.{letter-byte}
 use Rattle.outcome.proofs.Promises.{by-verdict, free-taken}
 use Rattle.addition_call.proofs.Adding.{addable, added-fits, added}
 use Rattle.addition_call.proofs.add_letter.Statement.{statement}

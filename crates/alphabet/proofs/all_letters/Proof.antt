@@ -9,7 +9,7 @@ use mathlib.Core.Bool.{Bool, true, false, not}
 use lib.ListN.{length, getD}
 use Rattle.palindromes.specs.Word.{Word, isLetter, allLetters}
 use Rattle.palindromes.proofs.Tests.{false-not-true, not-true-false}
-use Rattle.alphabet.proofs.Letters.{letter-of, letters-all}
+use Rattle.palindromes.proofs.Letters.{letter-of, letters-all}
 use Rattle.alphabet.proofs.all_letters.Statement.{statement}
 use Rattle.alphabet.proofs.all_letters.Tie as tie
 

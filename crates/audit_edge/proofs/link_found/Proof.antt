@@ -23,14 +23,16 @@ stepped {b} h k d u link x n e s =
 step-requires : tie.Need-step-requires
 step-requires c κs =
     let s = c .before .before .before in
-    let p = s .pre in
-    (framed-within (p .framed) (p .sized) (s .args .k) (omega (arith, p .more)), subst (Chain (s .args .b .now)) (sym (c .link-of .ensures .0)) (chain-next (p .chain) (c .before .if1 .left) .1))
+    let p = s .pre .0 in (
+      framed-within (p .framed) (p .sized) (s .args .k) (omega (arith, p .more)),
+      (subst (Chain (s .args .b .now)) (sym (c .link-of .ensures .0)) (chain-next (p .chain) (c .before .if1 .left) .1), s .pre .1),
+    )
 
 returns-2 : tie.Need-returns-2
 returns-2 c =
     let s = c .before .before .before .before in
     let link = c .before .link-of in
-    stepped (s .pre .framed) (s .args .k) (s .args .d) (s .args .u) (link .result) (c .step .result) (c .before .before .if1 .left) (link .ensures .0) (c .step .ensures)
+    stepped (s .pre .0 .framed) (s .args .k) (s .args .d) (s .args .u) (link .result) (c .step .result) (c .before .before .if1 .left) (link .ensures .0) (c .step .ensures)
 
 pub link-found-spec : {M : Type 1} → statement M
-link-found-spec = tie.close (tie.spec (λ c. alone (c .if1 .taken) refl) (λ c κs. chain-fits (c .before .before .pre .chain)) step-requires returns-2)
+link-found-spec = tie.close (tie.spec (λ c. alone (c .if1 .taken) refl) (λ c κs. chain-fits (c .before .before .pre .0 .chain)) step-requires returns-2)

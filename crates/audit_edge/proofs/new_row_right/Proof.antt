@@ -20,7 +20,7 @@ from-rank c = from-longer (c .before .before .before)
 
 -- both rows lie within the store
 fit : (s : tie.Start) → (24 * s .args .u + 24 ≤ length (s .args .b .now)) × (24 * s .args .q + 24 ≤ length (s .args .b .now))
-fit s = (chain-fits (s .pre .0 .chain), row-fits (s .pre .0 .sized) (s .args .q) (s .pre .1))
+fit s = (chain-fits (s .pre .0 .chain), row-fits (s .pre .0 .sized) (s .args .q) (s .pre .1 .0))
 
 link-of-requires : tie.Need-link-of-requires
 link-of-requires c κs = let f = fit (from-rank c) in omega (arith, f .0, f .1)
@@ -47,6 +47,6 @@ new-row-right-spec =
     (λ c κs. fit (from-longer (c .before)) .1)
     (λ c. not-used (omega (arith, c .if2 .taken, c .before .rank-of .ensures .0, c .before .before .count .ensures .0)))
     link-of-requires
-    (λ c κs. from-rank (c .before) .pre .0)
+    (λ c κs. let s = from-rank (c .before) in (s .pre .0, s .pre .1 .1))
     returns-3
     returns-4)

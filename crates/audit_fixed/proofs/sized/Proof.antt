@@ -1,7 +1,6 @@
 -- `audit_fixed::sized` decides whether the store has the sizes that its header names. A store too short for a header is too short for any. Assumes nothing.
 use native.Mathlib.Omega.{arith}
 use borrow.Author.Needs.{needs}
-use mathlib.Core.Path.{sym, _∙_}
 use Rattle.palindromes.specs.Refusal.{storeSize}
 use Rattle.audit_fixed.proofs.sized.Statement.{statement}
 use Rattle.audit_fixed.proofs.sized.Tie as tie
@@ -30,7 +29,7 @@ returns-7 c =
             long-enough = omega (arith, long .if4 .left);
             letters-fit = omega (arith, fits .if5 .left, fits .before .size .ensures .0);
           };
-      reading = sym (c .before .reading .ensures .0) ∙ c .if6 .left;
+      reading = omega (arith, c .before .reading .ensures .0, c .if6 .left);
     }
 
 pub sized-spec : {M : Type 1} → statement M

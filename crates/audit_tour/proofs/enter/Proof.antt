@@ -69,7 +69,7 @@ returns-2 c =
 new-row-right-requires : tie.Need-new-row-right-requires
 new-row-right-requires c κs =
     let p = from-back (back c) .pre in
-    (grown-walkable (p .1 .0) (p .1 .1) (p .0), named (back c) .high)
+    (grown-walkable (p .1 .0) (p .1 .1) (p .0 .0), (named (back c) .high, p .0 .1))
 
 returns-3 : tie.Need-returns-3
 returns-3 c g =
@@ -85,7 +85,7 @@ slice-write-marks c =
     let first = back-of-new c in
     mark-of (from-back first .pre .1 .0) (first .before .before .edge-of .result) (named first)
 
-add-met : tie.Need-add-t16
+add-met : tie.Need-add-t17
 add-met c = omega (arith, met-small (from-back (back-of-new (c .before)) .pre .1 .0))
 
 returns-4 : tie.Need-returns-4

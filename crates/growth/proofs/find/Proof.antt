@@ -4,7 +4,8 @@ use mathlib.Core.Path.{_≡_, sym, ap, _∙_, subst}
 use mathlib.Core.Bool.{true}
 use borrow.Author.Needs.{needs}
 use Rattle.palindromes.specs.Word.{Word, isLetter}
-use Rattle.store.specs.Good.{ruleIn, ruleOf}
+use Rattle.palindromes.specs.Reading.{ruleIn}
+use Rattle.store.specs.Good.{ruleOf}
 use Rattle.store.specs.Side.{endOf}
 use Rattle.walk.specs.declared.Walked.{Walked}
 use Rattle.walk.specs.declared.Walked.the-variants.{At}

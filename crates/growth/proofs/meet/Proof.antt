@@ -17,16 +17,18 @@ end-row-requires c κs = header-fits (c .before .before .pre .sized)
 
 walk-requires : tie.Need-walk-requires
 walk-requires c κs =
-    let g = c .before .before .before .pre in
-    let f = c .before .frame-of in
-    let e = endOf (c .before .before .before .args .side) in
-    (framed-within (f .ensures) (g .sized) (f .result .n) (omega (arith, f .ensures .size-is)), rw (c .end-row .ensures .0) (good-chain g (endRow (c .before .before .before .args .b .now) e) (g .ends e .used)))
+    let s = c .before .before .before .before in
+    let g = s .pre in
+    let f = c .before .before .frame-of in
+    let e = endOf (s .args .side) in
+    (framed-within (f .ensures) (g .sized) (f .result .n) (omega (arith, f .ensures .size-is)), (rw (c .before .end-row .ensures .0) (good-chain g (endRow (s .args .b .now) e) (g .ends e .used)), c .partner .ensures))
 
 returns : tie.Need-returns
 returns c =
-    let a = c .before .before .before .before .args in
-    met (c .before .before .before .before .pre) (endOf (a .side)) (a .d) (c .walk .result)
-    (framed (c .before .before .frame-of .ensures) (a .side) (a .d) (c .before .end-row .ensures .0) (λ (t : Word) (k want start : ℕ). Meets (a .b .now) t k (a .d) want start (c .walk .result)) (c .walk .ensures))
+    let s = c .before .before .before .before .before in
+    let a = s .args in
+    met (s .pre) (endOf (a .side)) (a .d) (c .walk .result)
+    (framed (c .before .before .before .frame-of .ensures) (a .side) (a .d) (c .before .before .end-row .ensures .0) (λ (t : Word) (k want start : ℕ). Meets (a .b .now) t k (a .d) want start (c .walk .result)) (c .walk .ensures))
 
 pub meet-spec : {M : Type 1} → statement M
-meet-spec = tie.close (tie.spec (λ c κs. search needs) end-row-requires walk-requires returns)
+meet-spec = tie.close (tie.spec (λ c κs. search needs) end-row-requires (λ c κs. search needs) walk-requires returns)

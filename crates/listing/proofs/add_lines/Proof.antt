@@ -21,32 +21,32 @@ record Turn (b name marks₀ : Word) (n : ℕ) (marks : Word) (row total k : ℕ
   as-long : length marks ≡ length marks₀
 
 abbrev Inv-loop : tie.InvT-loop
-Inv-loop b name marks₀ f row₀ total₀ k₀ marks row total k = Turn b name marks₀ (f .n) marks row total k
+Inv-loop b name marks₀ f partners row₀ total₀ k₀ marks row total k = Turn b name marks₀ (f .n) marks row total k
 
 abbrev μ-loop : tie.MeasureT-loop
-μ-loop b name marks₀ f row₀ total₀ k₀ marks row total k = f .n - k
+μ-loop b name marks₀ f partners row₀ total₀ k₀ marks row total k = f .n - k
 
 -- the entry, from the loop, and the loop, from behind the reading of a letter
 abbrev from-loop : tie.At-loop Inv-loop μ-loop → tie.Start Inv-loop μ-loop
-from-loop c = c .before .before .before .before .before
+from-loop c = c .before .before .before .before .before .before
 
 abbrev from-meet : tie.After-meet Inv-loop μ-loop → tie.At-loop Inv-loop μ-loop
-from-meet c = c .before .before .before .before
+from-meet c = c .before .before .before .before .before
 
 -- the letter read was one of the record
 read-one : (c : tie.After-meet Inv-loop μ-loop) → from-meet c .loop .k < sizeIn (from-loop (from-meet c) .args .b .now)
-read-one c = omega (arith, c .before .before .if1 .taken, from-meet c .before .frame-of .ensures .size-is)
+read-one c = omega (arith, c .before .before .before .if1 .taken, from-meet c .before .before .frame-of .ensures .size-is)
 
 loop-holds : tie.Need-loop-holds Inv-loop μ-loop
 loop-holds c =
-    let s = c .before .before .before .before in
+    let s = c .before .before .before .before .before in
     record { read = omega arith; reads = s .pre .1 .1; total-is = sym (ap length (listed-none (s .pre .0) (s .args .name .now))); small = omega arith; as-long = refl }
 
 meet-requires : tie.Need-meet-requires Inv-loop μ-loop
 meet-requires c κs =
-    let t = c .before .before .before in
-    let f = t .before .frame-of .ensures in
-    (from-loop t .pre .0, (f, (omega (arith, f .size-is), t .loop .inv .reads)))
+    let t = c .before .before .before .before in
+    let f = t .before .before .frame-of .ensures in
+    (from-loop t .pre .0, ((f, t .before .table .ensures), (omega (arith, f .size-is), t .loop .inv .reads)))
 
 line-length-requires : tie.Need-line-length-requires Inv-loop μ-loop
 line-length-requires c κs =
@@ -64,11 +64,11 @@ loop-again c =
     let more = listed-new (s .pre .0) name (i .k) (read-one m) (m .meet .ensures) (c .before .if2 .taken) in
     let line = c .line-length .ensures in
     record {
-      read = omega (arith, m .before .before .if1 .taken);
+      read = omega (arith, m .before .before .before .if1 .taken);
       reads = m .meet .ensures .reads;
       total-is = omega (arith, i .inv .total-is, line .0, ap length more, length-append (listed b name (i .k)) (bedLine name (m .meet .result .start) (i .k + 1)));
       small = omega (arith, i .inv .small, line .1);
-      as-long = m .meet .kept .1 .1 .1 .1 .0 ∙ i .inv .as-long;
+      as-long = m .meet .kept .1 .1 .1 .1 .1 .0 ∙ i .inv .as-long;
     }
 
 loop-again-2 : tie.Need-loop-again-2 Inv-loop μ-loop
@@ -77,18 +77,18 @@ loop-again-2 c =
     let s = from-loop (from-meet m) in
     let i = from-meet m .loop in
     record {
-      read = omega (arith, m .before .before .if1 .taken);
+      read = omega (arith, m .before .before .before .if1 .taken);
       reads = m .meet .ensures .reads;
       total-is = i .inv .total-is ∙ sym (ap length (listed-old (s .pre .0) (s .args .name .now) (i .k) (read-one m) (m .meet .ensures) (c .if2 .left)));
       small = omega (arith, i .inv .small);
-      as-long = m .meet .kept .1 .1 .1 .1 .0 ∙ i .inv .as-long;
+      as-long = m .meet .kept .1 .1 .1 .1 .1 .0 ∙ i .inv .as-long;
     }
 
 returns : tie.Need-returns Inv-loop μ-loop
 returns c =
     let t = c .before .before in
     let s = from-loop t in
-    t .loop .inv .total-is ∙ ap length (listed-all (s .pre .0) (s .args .name .now) (t .loop .k) (omega (arith, t .loop .inv .read, t .before .frame-of .ensures .size-is)))
+    t .loop .inv .total-is ∙ ap length (listed-all (s .pre .0) (s .args .name .now) (t .loop .k) (omega (arith, t .loop .inv .read, t .before .before .frame-of .ensures .size-is)))
 
 pub add-lines-spec : {M : Type 1} → statement M
 add-lines-spec =
@@ -97,6 +97,7 @@ add-lines-spec =
     Inv-loop
     μ-loop
     (λ c κs. c .before .before .before .pre .0 .sized)
+    (λ c κs. tt)
     loop-holds
     meet-requires
     (λ c. omega arith)

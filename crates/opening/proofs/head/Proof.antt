@@ -1,4 +1,4 @@
--- `opening::head` writes the capacity, the lengths of both roots and the ends. The lengths are -1 and 0, stored as 0 and 1. Assumes nothing.
+-- `opening::head` writes the capacity, the reading, the lengths of both roots and the ends. The lengths are -1 and 0, stored as 0 and 1. Assumes nothing.
 use mathlib.Core.Path.{refl}
 use borrow.Author.Needs.{needs}
 use Rattle.store.specs.Writes.{writes}
@@ -18,4 +18,4 @@ returns c = cc
 pub head-spec : {M : Type 1} → statement M
 head-spec =
     tie.close
-    (tie.spec (λ c κs. search needs) put-length-requires put-length-requires-2 (λ c κs. search needs) (λ c κs. search needs) (λ c. search needs) returns)
+    (tie.spec (λ c κs. search needs) (λ c κs. search needs) put-length-requires put-length-requires-2 (λ c κs. search needs) (λ c κs. search needs) (λ c. search needs) returns)

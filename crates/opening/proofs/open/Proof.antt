@@ -9,14 +9,14 @@ use Rattle.opening.proofs.open.Tie as tie
 
 -- the entry from behind the clearing, and that place from behind the header
 abbrev entry : tie.After-clear → tie.Start
-entry c = c .before .before .before
+entry c = c .before .before .before .before
 
 abbrev at-clear : tie.After-head → tie.After-clear
 at-clear c = c .before .before .before .before
 
 clear-requires : tie.Need-clear-requires
 unfolding storeSize
-clear-requires c κs = omega (arith, c .before .before .pre)
+clear-requires c κs = omega (arith, c .before .before .before .pre)
 
 head-requires : tie.Need-head-requires
 unfolding storeSize
@@ -33,4 +33,4 @@ returns c = cc
 pub open-spec : {M : Type 1} → statement M
 open-spec =
     tie.close
-    (tie.spec (λ c. search needs) (λ c. search needs) (λ c. search needs) clear-requires head-requires number-requires (λ c. search needs) returns)
+    (tie.spec (λ c κs. search needs) (λ c. search needs) (λ c. search needs) (λ c. search needs) clear-requires head-requires number-requires (λ c. search needs) returns)

@@ -1,5 +1,5 @@
 -- `walk::faces` tells whether the wanted letter stands just before the row's palindrome: the place before it is the one that the row's stored length
--- tells, and the letter there is the one that is read towards the side. Assumes nothing.
+-- tells, and the letter there is the one that stands. Assumes nothing.
 use Prim.Native.Nat.{ℕ, _-_, _≤_}
 use native.Mathlib.Omega.{arith}
 use borrow.Author.Needs.{needs}
@@ -13,7 +13,7 @@ use Rattle.store.specs.Layout.{cell, lengthIn}
 use Rattle.store.specs.Lengths.{placeBefore}
 use Rattle.store.proofs.Signed.{kept}
 use Rattle.store.specs.declared.lengths.Place.the-variants.{At, Outside}
-use Rattle.walk.specs.Frame.{seenIn}
+use Rattle.walk.specs.Frame.{standingIn}
 use Rattle.walk.specs.Walk.{facesAt}
 use Rattle.walk.proofs.faces.Statement.{statement}
 use Rattle.walk.proofs.faces.Tie as tie
@@ -46,8 +46,8 @@ place-is c =
     let l = c .before .length-of .ensures in
     c .before2 .ensures (cell (c .before .before .before .args .b .now) (c .before .before .before .args .row) 0) (kept (l .1) ∙ l .0)
 
-seen-requires : tie.Need-seen-requires
-seen-requires c κs =
+standing-requires : tie.Need-standing-requires
+standing-requires c κs =
     let s = c .before .before .before .before .before .before in
     let h = placed (s .args .k) (cell (s .args .b .now) (s .args .row) 0) (c .before .place .given .0 .0) (sym (place-is (c .before .before .before)) ∙ c .before .place .given .1) in
     (s .pre .0 .letters, omega (arith, h .0, h .1, s .pre .0 .read, s .pre .1 .1))
@@ -55,15 +55,15 @@ seen-requires c κs =
 returns : tie.Need-returns
 returns c =
     let a = c .before .before .before .before .before .before .before .args in
-    there (a .b .now) (seenIn (a .b .now) (a .f) (a .side)) (a .k) (a .want) (a .row) (c .before .before .place .given .0 .0) (c .seen .result)
-    (sym (place-is (c .before .before .before .before)) ∙ c .before .before .place .given .1) (c .seen .ensures)
+    there (a .b .now) (standingIn (a .b .now) (a .f) (a .side)) (a .k) (a .want) (a .row) (c .before .before .place .given .0 .0) (c .standing .result)
+    (sym (place-is (c .before .before .before .before)) ∙ c .before .before .place .given .1) (c .standing .ensures)
 
 returns-2 : tie.Need-returns-2
 returns-2 c =
     let a = c .before .before .before .before .before .args in
-    nowhere (a .b .now) (seenIn (a .b .now) (a .f) (a .side)) (a .k) (a .want) (a .row) (sym (place-is (c .before .before)) ∙ c .enum-told .given .1)
+    nowhere (a .b .now) (standingIn (a .b .now) (a .f) (a .side)) (a .k) (a .want) (a .row) (sym (place-is (c .before .before)) ∙ c .enum-told .given .1)
 
 pub faces-spec : {M : Type 1} → statement M
 faces-spec =
     tie.close
-    (tie.spec (λ c κs. search needs) (λ c κs. search needs) (λ c. search needs) seen-requires (λ c. search needs) returns returns-2)
+    (tie.spec (λ c κs. search needs) (λ c κs. search needs) (λ c. search needs) standing-requires (λ c. search needs) returns returns-2)

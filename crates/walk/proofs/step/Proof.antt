@@ -21,7 +21,7 @@ module _ {b t : Word} {k d want start : ℕ} {o : Walked} (m : Meets b t k d wan
   none-met e = ended (subst (Meets b t k d want start) e m) refl
 
 edge-of-requires : tie.Need-edge-of-requires
-edge-of-requires c κs = meets-fits (c .before .before .before .before .before .pre .1) (c .before .before .before .walk .ensures) (c .before .found .given .1)
+edge-of-requires c κs = meets-fits (c .before .before .before .before .before .pre .1 .0) (c .before .before .before .walk .ensures) (c .before .found .given .1)
 
 returns : tie.Need-returns
 returns c =

@@ -1,16 +1,18 @@
 -- `walk::walk` finds the first row along the links that faces the wanted letter. The loop's invariant (`Turn`): from the row that it has come to the links lead down to row 0, and what the
 -- walk finds from there it finds from the start. The measure is the row's stored length, which falls along the links. Assumes nothing.
-use Prim.Native.Nat.{ℕ}
+use Prim.Native.Nat.{ℕ, _<_}
 use native.Mathlib.Omega.{arith}
 use borrow.Author.Needs.{needs}
-use mathlib.Core.Path.{_≡_, refl, sym, _∙_, subst}
+use mathlib.Core.Path.{_≡_, refl, sym, ap, _∙_, subst}
 use mathlib.Core.Bool.{Bool, true, false}
 use Rattle.palindromes.specs.Word.{Word}
 use Rattle.store.specs.Layout.{cell, linkIn}
 use Rattle.walk.specs.declared.Walked.{Walked}
 use Rattle.walk.specs.declared.Walked.the-variants.{At, Nothing}
-use Rattle.walk.specs.Frame.{seenIn, partnerIn}
-use Rattle.walk.specs.Walk.{facesAt, Chain, Meets, letter, nothing, here, onward}
+use Rattle.walk.specs.Frame.{standingIn, seenIn, partnerIn}
+use Rattle.walk.specs.Walk.{facesAt, facing, Chain, Meets, letter, nothing, here, onward}
+use Rattle.store.specs.Side.{endOf}
+use Rattle.walk.proofs.Facing.{facing-read}
 use Rattle.walk.proofs.Chains.{chain-fits, chain-next}
 use Rattle.walk.proofs.walk.Statement.{statement}
 use Rattle.walk.proofs.walk.Tie as tie
@@ -21,12 +23,12 @@ record Turn (b t : Word) (k d want start row : ℕ) : Type 0 where
   back : (o : Walked) → Meets b t k d want row o → Meets b t k d want start o
 
 abbrev Inv-loop : tie.InvT-loop
-Inv-loop b f side k start d want row₀ row = Turn b (seenIn b f side) k d (partnerIn f d) start row
+Inv-loop b f side k start d want facing row₀ row = Turn b (seenIn b f side) k d (partnerIn f d) start row
 
 abbrev μ-loop : tie.MeasureT-loop
-μ-loop b f side k start d want row₀ row = cell b row 0
+μ-loop b f side k start d want facing row₀ row = cell b row 0
 
-module _ {b t : Word} {k d want start row : ℕ} (h : Turn b t k d want start row) (n : row ≡ 0 → ⊥) (x : Bool) (w : ℕ) (e : w ≡ want) (f : x ≡ facesAt b t k w row) where
+module _ {b t : Word} {k d want start row : ℕ} (h : Turn b t k d want start row) (n : row ≡ 0 → ⊥) (x : Bool) (f : x ≡ facesAt b t k want row) where
   -- the walk ends at a row that faces the wanted letter
   turn-here : x ≡ true → Meets b t k d want start (At row)
   turn-here g = h .back (At row) (here n (cc) refl)
@@ -37,18 +39,36 @@ module _ {b t : Word} {k d want start row : ℕ} (h : Turn b t k d want start ro
       let miss : facesAt b t k want row ≡ false = cc in
       subst (Turn b t k d want start) (sym l) (record { chain = chain-next (h .chain) n .1; back = λ o m. h .back o (onward n miss m) })
 
+-- the entry from behind a comparison
+abbrev from-faces : tie.After-faces Inv-loop μ-loop → tie.Start Inv-loop μ-loop
+from-faces c = c .before .before .before .before .before
+
 loop-holds : tie.Need-loop-holds Inv-loop μ-loop
-loop-holds c = record { chain = c .before .before .pre .1; back = λ o m. m }
+loop-holds c = record { chain = c .before .before .pre .1 .0; back = λ o m. m }
 
 faces-requires : tie.Need-faces-requires Inv-loop μ-loop
 faces-requires c κs =
     let h = c .before .loop .inv .chain in
     (c .before .before .before .before .pre .0, (chain-fits h, omega (arith, chain-next h (c .loop-test .taken) .0)))
 
+-- what a comparison at a row tells
+compared : (c : tie.After-faces Inv-loop μ-loop) → c .faces .result ≡ facesAt (from-faces c .args .b .now) (seenIn (from-faces c .args .b .now) (from-faces c .args .f) (from-faces c .args .side)) (from-faces c .args .k) (partnerIn (from-faces c .args .f) (from-faces c .args .d)) (c .before .before .loop .row)
+compared c =
+    let s = from-faces c in
+    let a = s .args in
+    let chosen = c .before .before .before in
+    let row = c .before .before .loop .row in
+    let stored : 0 < cell (a .b .now) row 0 = omega (arith, chain-next (c .before .before .loop .inv .chain) (c .before .loop-test .taken) .0) in
+    let letter : chosen .facing-letter .result ≡ facing (endOf (a .side)) (a .d) (partnerIn (a .f) (a .d)) =
+    chosen .facing-letter .ensures ∙ ap (facing (endOf (a .side)) (a .d)) (s .pre .1 .1) in
+    c .faces .ensures
+    ∙ ap (λ (x : ℕ). facesAt (a .b .now) (standingIn (a .b .now) (a .f) (a .side)) (a .k) x row) letter
+    ∙ facing-read (a .b .now) (a .f) (a .side) (a .k) (a .d) row (s .pre .0) stored
+
 returns : tie.Need-returns Inv-loop μ-loop
 returns c =
-    turn-here (c .before .before .before .loop .inv) (c .before .before .loop-test .taken) (c .before .faces .result) (c .before .before .before .before .partner .result)
-    (c .before .before .before .before .partner .ensures) (c .before .faces .ensures) (c .if1 .taken)
+    let at = c .before in
+    turn-here (at .before .before .loop .inv) (at .before .loop-test .taken) (at .faces .result) (compared at) (c .if1 .taken)
 
 link-of-requires : tie.Need-link-of-requires Inv-loop μ-loop
 link-of-requires c κs = chain-fits (c .before .before .before .loop .inv .chain)
@@ -58,14 +78,21 @@ loop-less c = rw (c .link-of .ensures .0) (chain-next (c .before .before .before
 
 loop-again : tie.Need-loop-again Inv-loop μ-loop
 loop-again c =
-    turn-on (c .before .before .before .before .loop .inv) (c .before .before .before .loop-test .taken) (c .before .before .faces .result) (c .before .before .before .before .before .partner .result)
-    (c .before .before .before .before .before .partner .ensures) (c .before .before .faces .ensures) (c .before .if1 .left) (c .link-of .result) (c .link-of .ensures .0)
+    let at = c .before .before in
+    turn-on (at .before .before .loop .inv) (at .before .loop-test .taken) (at .faces .result) (compared at) (c .before .if1 .left) (c .link-of .result) (c .link-of .ensures .0)
 
+-- past the last row: the imaginary string serves a letter that is its own partner, and no other
 returns-2 : tie.Need-returns-2 Inv-loop μ-loop
-returns-2 c = c .before .before .loop .inv .back (At 0) (letter (c .before .loop-test .left) (sym (c .before .before .before .partner .ensures) ∙ c .if2 .taken) refl)
+returns-2 c =
+    let s = c .before .before .before .before .before in
+    let partner = s .pre .1 .1 in
+    c .before .before .loop .inv .back (At 0) (letter (c .before .loop-test .left) (sym partner ∙ c .if2 .taken) refl)
 
 returns-3 : tie.Need-returns-3 Inv-loop μ-loop
-returns-3 c = c .before .before .loop .inv .back Nothing (nothing (c .before .loop-test .left) (λ e. c .if2 .left (c .before .before .before .partner .ensures ∙ e)) refl)
+returns-3 c =
+    let s = c .before .before .before .before .before in
+    let partner = s .pre .1 .1 in
+    c .before .before .loop .inv .back Nothing (nothing (c .before .loop-test .left) (λ e. c .if2 .left (partner ∙ e)) refl)
 
 pub walk-spec : {M : Type 1} → statement M
 walk-spec =

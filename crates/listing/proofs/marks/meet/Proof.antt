@@ -31,7 +31,7 @@ begins : (c : tie.After-spelling-length)
 begins c = ap (λ (n : ℕ). from-length c .args .k + 1 - n) (here c)
 
 next-requires : tie.Need-next-requires
-next-requires c κs = let p = c .before .before .pre in (p .0, (p .1 .0, (p .1 .1 .0, to-right (p .1 .1 .1 .ends))))
+next-requires c κs = let p = c .before .before .pre in (p .0, (p .1 .0 .0, (p .1 .0 .1, (p .1 .1 .0, to-right (p .1 .1 .1 .ends)))))
 
 sub-start : tie.Need-sub-start
 sub-start c = let a = from-length c .args in omega (arith, here c, ending-most (a .b .now) (a .k + 1))

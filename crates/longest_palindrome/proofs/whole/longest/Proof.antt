@@ -22,21 +22,21 @@ record Turn (b : Word) (n row length place k : ℕ) : Type 0 where
   best : Best (ruleOf b) (lettersIn b) k length place
 
 abbrev Inv-loop : tie.InvT-loop
-Inv-loop b f row₀ length₀ place₀ k₀ row length place k = Turn b (f .n) row length place k
+Inv-loop b f partners row₀ length₀ place₀ k₀ row length place k = Turn b (f .n) row length place k
 
 abbrev μ-loop : tie.MeasureT-loop
-μ-loop b f row₀ length₀ place₀ k₀ row length place k = f .n - k
+μ-loop b f partners row₀ length₀ place₀ k₀ row length place k = f .n - k
 
 -- the entry, from the loop, and the loop, from behind the reading of a letter
 abbrev from-loop : tie.At-loop Inv-loop μ-loop → tie.Start Inv-loop μ-loop
-from-loop c = c .before .before .before
+from-loop c = c .before .before .before .before
 
 abbrev from-length : tie.After-spelling-length Inv-loop μ-loop → tie.At-loop Inv-loop μ-loop
-from-length c = c .before .before .before .before
+from-length c = c .before .before .before .before .before
 
 -- as many letters are to be read as the record has
-size : (c : tie.At-loop Inv-loop μ-loop) → c .before .frame-of .result .n ≡ length (lettersIn (from-loop c .args .b .now))
-size c = omega (arith, c .before .frame-of .ensures .size-is, letters-length (from-loop c .pre .sized))
+size : (c : tie.At-loop Inv-loop μ-loop) → c .before .before .frame-of .result .n ≡ length (lettersIn (from-loop c .args .b .now))
+size c = omega (arith, c .before .before .frame-of .ensures .size-is, letters-length (from-loop c .pre .sized))
 
 -- the palindrome that ends the letters read now
 here : (c : tie.After-spelling-length Inv-loop μ-loop) → c .spelling-length .result ≡ length (endingIn (from-loop (from-length c) .args .b .now) (from-length c .loop .k + 1))
@@ -44,14 +44,14 @@ here c = c .spelling-length .ensures ∙ ending-length (from-right (c .before .n
 
 loop-holds : tie.Need-loop-holds Inv-loop μ-loop
 loop-holds c =
-    let s = c .before .before in
+    let s = c .before .before .before in
     record { read = omega arith; ends = right-first (s .pre); best = best-first (ruleOf (s .args .b .now)) (lettersIn (s .args .b .now)) }
 
 next-requires : tie.Need-next-requires Inv-loop μ-loop
 next-requires c κs =
-    let t = c .before .before in
-    let f = t .before .frame-of .ensures in
-    (from-loop t .pre, (f, (omega (arith, f .size-is), to-right (t .loop .inv .ends))))
+    let t = c .before .before .before in
+    let f = t .before .before .frame-of .ensures in
+    (from-loop t .pre, (f, (t .before .table .ensures, (omega (arith, f .size-is), to-right (t .loop .inv .ends)))))
 
 sub-place : tie.Need-sub-place Inv-loop μ-loop
 sub-place c =
@@ -64,7 +64,7 @@ loop-again c =
     let t = from-length q in
     let i = t .loop in
     let b = from-loop t .args .b .now in
-    let test = q .before .before .if1 .taken in
+    let test = q .before .before .before .if1 .taken in
     record {
       read = omega (arith, test);
       ends = from-right (q .before .next .ensures);
@@ -86,9 +86,10 @@ longest-spec =
     Inv-loop
     μ-loop
     (λ c κs. c .before .pre .sized)
+    (λ c κs. tt)
     loop-holds
     next-requires
-    (λ c κs. (from-loop (c .before .before .before) .pre, c .next .ensures .used))
+    (λ c κs. (from-loop (c .before .before .before .before) .pre, c .next .ensures .used))
     (λ c. omega arith)
     sub-place
     (λ c. omega arith)

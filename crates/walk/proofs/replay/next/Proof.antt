@@ -3,6 +3,7 @@ use Prim.Native.Nat.{ℕ, _+_, _<_}
 use native.Mathlib.Omega.{arith}
 use mathlib.Core.Path.{_≡_, ap, _∙_, subst₂}
 use lib.ListN.{getD}
+use borrow.Author.Needs.{needs}
 use Rattle.palindromes.specs.Word.{Word}
 use Rattle.store.specs.Layout.{sizeIn}
 use Rattle.store.specs.Good.{Good}
@@ -30,19 +31,23 @@ seen-requires : tie.Need-seen-requires
 seen-requires c κs =
     let s = c .before in
     let w = framed-within (s .pre .1 .0) (s .pre .0 .sized) (s .args .k + 1) (omega arith) in
-    (w .letters, omega (arith, w .read))
+    ((w .letters, omega (arith, w .read)), s .pre .1 .1 .0)
+
+-- the letter that must face the next one
+wanted : (c : tie.After-partner-in) → c .partner-in .result ≡ partnerIn (c .before .before .before .args .f) (c .before .seen .result)
+wanted c = c .partner-in .ensures ∙ c .before .before .before .pre .1 .1 .0 (c .before .seen .result) (search needs)
 
 step-requires : tie.Need-step-requires
 step-requires c κs =
-    let s = c .before .before in
-    (framed-within (s .pre .1 .0) (s .pre .0 .sized) (s .args .k) (omega arith), good-chain (s .pre .0) (s .args .row) (s .pre .1 .1 .1 .used))
+    let s = c .before .before .before in
+    (framed-within (s .pre .1 .0) (s .pre .0 .sized) (s .args .k) (omega arith), (good-chain (s .pre .0) (s .args .row) (s .pre .1 .1 .1 .1 .used), wanted c))
 
 returns : tie.Need-returns
 returns c =
-    let s = c .before .before .before in
+    let s = c .before .before .before .before in
     let a = s .args in
-    let seen = c .before .seen in
-    stepped (s .pre .0) (s .pre .1 .0) (a .side) (a .k) (a .row) (seen .result) (c .step .result) (s .pre .1 .1 .0) (s .pre .1 .1 .1) (seen .ensures) (c .step .ensures)
+    let seen = c .before .before .seen in
+    stepped (s .pre .0) (s .pre .1 .0) (a .side) (a .k) (a .row) (seen .result) (c .step .result) (s .pre .1 .1 .1 .0) (s .pre .1 .1 .1 .1) (seen .ensures) (c .step .ensures)
 
 pub next-spec : {M : Type 1} → statement M
-next-spec = tie.close (tie.spec seen-requires step-requires returns)
+next-spec = tie.close (tie.spec seen-requires (λ c κs. search needs) step-requires returns)

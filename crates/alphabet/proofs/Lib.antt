@@ -1,2 +1,0 @@
--- the laws of words of letters
-pub mod Letters

@@ -1,0 +1,101 @@
+-- What is asked of the partner rules, of either reading: each undoes itself, and the partner of a letter is a letter. Here alone the rules are looked into. And what is
+-- so of inverted records alone: no letter is its own partner, so that a repeat has an even length and no single letter is one. Rests on `letter-cases`.
+use Prim.Native.Nat.{ℕ, suc, _+_, _-_, _/_, _%_, _<_}
+use native.Mathlib.Decide.{decLt}
+use native.Mathlib.Omega.{arith}
+use mathlib.Core.Path.{_≡_, refl, sym, ap, _∙_}
+use mathlib.Core.Bool.{Bool, true, false, cond}
+use lib.Dec.{eqb}
+use lib.ListN.{length, getD}
+use borrow.Author.Tests.{eqb-true}
+use Rattle.palindromes.specs.Word.{Word, isLetter, allLetters}
+use Rattle.palindromes.specs.Palindrome.{SelfInverse, plain, Symmetric}
+use Rattle.palindromes.specs.Reading.{Reading, asPlain, asInverted, complement, readingNumber, ruleIn}
+use Rattle.palindromes.proofs.Letters.{letter-cases, letter-of}
+use Rattle.palindromes.proofs.Search.{symmetric-at}
+
+-- ---- the two rules
+
+-- 02 (vi) "every byte's partner has that byte as its partner"
+pub complement-inverse : SelfInverse complement
+unfolding complement
+complement-inverse x = of (eqb x 65) (eqb x 84) (eqb x 67) (eqb x 71) refl refl refl refl
+  where
+    of : (s t u v : Bool) → eqb x 65 ≡ s → eqb x 84 ≡ t → eqb x 67 ≡ u → eqb x 71 ≡ v → complement (cond s 84 (cond t 65 (cond u 71 (cond v 67 x)))) ≡ x
+    of true t u v e e₁ e₂ e₃ = sym (eqb-true x 65 e)
+    of false true u v e e₁ e₂ e₃ = sym (eqb-true x 84 e₁)
+    of false false true v e e₁ e₂ e₃ = sym (eqb-true x 67 e₂)
+    of false false false true e e₁ e₂ e₃ = sym (eqb-true x 71 e₃)
+    of false false false false e e₁ e₂ e₃ = cc (e, e₁, e₂, e₃)
+
+-- a byte's partner is a byte
+pub complement-byte : (x : ℕ) → x < 256 → complement x < 256
+unfolding complement
+complement-byte x h = of (eqb x 65) (eqb x 84) (eqb x 67) (eqb x 71)
+  where
+    of : (s t u v : Bool) → cond s 84 (cond t 65 (cond u 71 (cond v 67 x))) < 256
+    of true t u v = omega arith
+    of false true u v = omega arith
+    of false false true v = omega arith
+    of false false false true = omega arith
+    of false false false false = h
+
+-- the rule of each reading, by its number
+pub rule-plain : (m : ℕ) → eqb m 1 ≡ false → (x : ℕ) → ruleIn m x ≡ x
+unfolding ruleIn
+rule-plain m e x = ap (λ (t : Bool). cond t (complement x) x) e
+
+pub rule-inverted : (m : ℕ) → eqb m 1 ≡ true → (x : ℕ) → ruleIn m x ≡ complement x
+unfolding ruleIn
+rule-inverted m e x = ap (λ (t : Bool). cond t (complement x) x) e
+
+-- so that of a plain record is the plain rule
+pub plain-rule : ruleIn 0 ≡ plain
+unfolding ruleIn
+plain-rule = refl
+
+-- so the rule of either reading undoes itself
+pub rule-inverse : (m : ℕ) → SelfInverse (ruleIn m)
+unfolding ruleIn
+rule-inverse m x = of (eqb m 1)
+  where
+    of : (t : Bool) → cond t (complement (cond t (complement x) x)) (cond t (complement x) x) ≡ x
+    of true = complement-inverse x
+    of false = refl
+
+-- and the partner of a letter is a letter, so that a record is one of letters from both ends
+pub rule-letter : (m c : ℕ) → isLetter c ≡ true → isLetter (ruleIn m c) ≡ true
+unfolding ruleIn isLetter complement
+rule-letter m c h = of (eqb m 1)
+  where
+    of : (t : Bool) → isLetter (cond t (complement c) c) ≡ true
+    of true = letter-cases (λ (x : ℕ). isLetter (complement x) ≡ true) refl refl refl refl c h
+    of false = h
+
+-- a reading's number is 0 or 1
+pub number-below : (r : Reading) → readingNumber r < 2
+unfolding readingNumber
+number-below asPlain = omega arith
+number-below asInverted = omega arith
+
+-- ---- inverted records
+
+-- no letter is its own partner
+pub no-letter-alone : (m c : ℕ) → eqb m 1 ≡ true → isLetter c ≡ true → ruleIn m c ≡ c → ⊥
+unfolding complement
+no-letter-alone m c e h f = letter-cases (λ (x : ℕ). complement x ≡ x → ⊥) (λ g. omega arith) (λ g. omega arith) (λ g. omega arith) (λ g. omega arith) c h (sym (rule-inverted m e c) ∙ f)
+
+-- 02 (vi) "its repeats have even length": the letter in the middle of an odd one would be its own partner
+pub even-length : (m : ℕ) → eqb m 1 ≡ true → (w : Word) → allLetters w ≡ true → Symmetric (ruleIn m) w → length w % 2 ≡ 0
+even-length m e w all h = go (decLt (length w / 2 + length w / 2) (length w))
+  where
+    middle : ℕ
+    middle = length w / 2
+
+    go : Dec (length w / 2 + length w / 2 < length w) → length w % 2 ≡ 0
+    go (no l) = omega arith
+    go (yes l) =
+        let inside : middle < length w = omega arith in
+        let faces : length w - suc middle ≡ middle = omega arith in
+        let alone : getD w middle 0 ≡ ruleIn m (getD w middle 0) = ap (λ (i : ℕ). getD w i 0) (sym faces) ∙ symmetric-at (ruleIn m) w h middle inside in
+        absurd (no-letter-alone m (getD w middle 0) e (letter-of w middle inside all) (sym alone))

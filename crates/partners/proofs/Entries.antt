@@ -1,0 +1,42 @@
+-- A table of all byte values: what a rule gives at each number below 256, in order, is the rule at every entry. The constant table of the code is such a list, which antt computes entry
+-- by entry. Assumes nothing.
+use Prim.Native.Nat.{ℕ, zero, suc, _+_, _<_}
+use native.Mathlib.Nat.{add-zero, zero-add, add-suc, suc-add, le-of-suc-le-suc, not-suc-le-zero}
+use mathlib.Core.Path.{_≡_, sym, ap, _∙_}
+use mathlib.Core.Bool.{true}
+use mathlib.Core.List.{List, [], _∷_}
+use lib.ListN.{getD}
+use Rattle.palindromes.specs.Word.{isLetter}
+use Rattle.palindromes.specs.Reading.{complement, ruleIn}
+use Rattle.palindromes.proofs.Letters.{letter-byte}
+use Rattle.palindromes.proofs.Readings.{complement-inverse, complement-byte, rule-letter}
+
+module _ (f : ℕ → ℕ) where
+  -- what the rule gives at n numbers from i on
+  unfoldable pub entriesFrom : ℕ → ℕ → List ℕ
+  entriesFrom i zero = []
+  entriesFrom i (suc n) = f i ∷ entriesFrom (suc i) n
+
+  entry-from : (n i k : ℕ) → k < n → getD (entriesFrom i n) k 0 ≡ f (i + k)
+  unfolding entriesFrom
+  entry-from zero i k h = absurd (not-suc-le-zero h)
+  entry-from (suc n) i zero h = ap f (sym (add-zero i))
+  entry-from (suc n) i (suc k) h = entry-from n (suc i) k (le-of-suc-le-suc h) ∙ ap f (suc-add i k ∙ sym (add-suc i k))
+
+  -- entry k of a table of all byte values
+  pub entry-at : (k : ℕ) → k < 256 → getD (entriesFrom 0 256) k 0 ≡ f k
+  entry-at k h = entry-from 256 0 k h ∙ ap f (zero-add k)
+
+-- ---- the table of inverted records
+
+abbrev pub partners : List ℕ
+partners = entriesFrom complement 0 256
+
+-- each entry's partner has the entry's number as its partner
+pub partner-undone : (k : ℕ) → k < 256 → getD partners (getD partners k 0) 0 ≡ k
+partner-undone k h = ap (λ (x : ℕ). getD partners x 0) (entry-at complement k h) ∙ entry-at complement (complement k) (complement-byte k h) ∙ complement-inverse k
+
+-- and letters go to letters
+pub partner-letter : (k : ℕ) → isLetter k ≡ true → isLetter (getD partners k 0) ≡ true
+unfolding ruleIn
+partner-letter k h = rw (entry-at complement k (letter-byte k h)) (rule-letter 1 k h)
