@@ -57,6 +57,7 @@ static uint64_t longest_at(int left)
 }
 
 static uint64_t make_open(const struct line *l) { return mirror_open(store, sizeof store, l->number); }
+static uint64_t make_open_inverted(const struct line *l) { return mirror_open_inverted(store, sizeof store, l->number); }
 
 static void say_open(const struct line *l, uint64_t answer)
 {
@@ -172,6 +173,7 @@ static void say_list(const struct line *l, uint64_t answer)
 
 static const struct form forms[] = {
     {"open", NUMBER, "open CAPACITY", make_open, say_open},
+    {"open-inverted", NUMBER, "open-inverted CAPACITY", make_open_inverted, say_open},
     {"add", LETTER_AND_END, "add LETTER left, add LETTER right", make_add, say_add},
     {"remove", END, "remove left, remove right", make_remove, say_remove},
     {"length", NOTHING, "length", make_length, say_number},
@@ -290,7 +292,7 @@ static size_t read_lines(char *line, char *end, struct line *lines)
         } else {
             if ((words = cut(line, l, at)) == 0) continue;
             read_call(l, words, at);
-            if (calls++ == 0 && l->form->make != make_open) stop(", line %zu: a call before the opening", at);
+            if (calls++ == 0 && l->form->say != say_open) stop(", line %zu: a call before the opening", at);
         }
         n++;
     }

@@ -4,6 +4,10 @@
  * that a damaged one is refused and never followed. Opening needs no good store: it makes an empty record of whatever the
  * bytes held, a live record too. Buffers of one call must not overlap. Nothing is allocated.
  *
+ * A record is plain or inverted, as it was opened, and every other call that takes a store works on either. A repeat of a
+ * plain record is a stretch that equals its reversal; of an inverted one, a stretch that equals its reversal with every
+ * letter replaced by its partner, A with T and C with G, as restriction sites do.
+ *
  * Every call answers one number: byte 0 (lowest) is the refusal number, 0 where the call was carried out; byte 1 a
  * flag; bytes 2 and 3 a row; bytes 4 and 5 a first, bytes 6 and 7 a second number. A refusal is its number and zero
  * above, and leaves every lent byte as it was. docs/HOST.md says which call answers what. */
@@ -38,6 +42,9 @@ enum {
 };
 
 uint64_t mirror_open(uint8_t *store, size_t length, uint64_t capacity);
+/* Opens an inverted record; all else as mirror_open. Its repeats have even length, and letters may stand without any: then
+ * the longest is length 0 at place 0, and an end without one answers row 1, the empty string's, and no flag. */
+uint64_t mirror_open_inverted(uint8_t *store, size_t length, uint64_t capacity);
 uint64_t mirror_add_left(uint8_t *store, size_t length, uint64_t letter);
 uint64_t mirror_add_right(uint8_t *store, size_t length, uint64_t letter);
 uint64_t mirror_remove_left(uint8_t *store, size_t length);

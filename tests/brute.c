@@ -1,15 +1,13 @@
 #include "brute.h"
 #include <string.h>
 
-void brute_plain(unsigned char rule[256])
+const unsigned char *brute_rule(unsigned reading)
 {
-    for (int i = 0; i < 256; i++) rule[i] = (unsigned char)i;
-}
-
-void brute_inverted(unsigned char rule[256])
-{
-    brute_plain(rule);
-    rule['A'] = 'T'; rule['T'] = 'A'; rule['C'] = 'G'; rule['G'] = 'C';
+    static unsigned char rules[READINGS][256];
+    if (rules[PLAIN]['A'] == 'A') return rules[reading];
+    for (int i = 0; i < 256; i++) rules[PLAIN][i] = rules[INVERTED][i] = (unsigned char)i;
+    rules[INVERTED]['A'] = 'T'; rules[INVERTED]['T'] = 'A'; rules[INVERTED]['C'] = 'G'; rules[INVERTED]['G'] = 'C';
+    return rules[reading];
 }
 
 int brute_palindrome(const unsigned char *rule, const unsigned char *w, size_t n)

@@ -6,8 +6,11 @@
 
 typedef struct { size_t start, end; } stretch;
 
-void brute_plain(unsigned char rule[256]);
-void brute_inverted(unsigned char rule[256]);
+/* How a record is read, by the numbers of the store's reading cell (docs/LAYOUT.md). */
+enum { PLAIN, INVERTED, READINGS };
+
+/* The partner rule of a reading: each byte by itself, or A with T, C with G and every other byte by itself. */
+const unsigned char *brute_rule(unsigned reading);
 
 /* Whether w, not empty, equals its reversal with every letter replaced by its partner. */
 int brute_palindrome(const unsigned char *rule, const unsigned char *w, size_t n);

@@ -1,13 +1,10 @@
 #include "calls.h"
 
-unsigned call_number(call_kind kind)
-{
-    return 1 + kind;
-}
-
 uint64_t call_make(const library *of, uint8_t *store, size_t length, const call *c, const buffers *lent)
 {
     switch (c->kind) {
+    case OPEN: return of->open(store, length, c->number);
+    case OPEN_INVERTED: return of->open_inverted(store, length, c->number);
     case ADD_LEFT: return of->add_left(store, length, c->number);
     case ADD_RIGHT: return of->add_right(store, length, c->number);
     case REMOVE_LEFT: return of->remove_left(store, length);

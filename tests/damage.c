@@ -1,6 +1,6 @@
-/* Damaged stores: a good store is made by calls, damaged in one of the ways of damages.c, and then every call that
- * takes a store must answer 3 exactly where the judge finds it not good, must answer as the oracle says where it is
- * good, and must change no byte where it refuses. Usage: damage [seed [rounds]] */
+/* Damaged stores: a good store of either reading is made by calls, damaged in one of the ways of damages.c, and then every
+ * call that takes a store must answer 3 exactly where the judge finds it not good, must answer as the oracle says where it
+ * is good, and must change no byte where it refuses. Usage: damage [seed [rounds]] */
 #include "damages.h"
 #include "guard.h"
 #include "mirror.h"
@@ -23,18 +23,22 @@ static void stop(const char *kind, const char *what)
     exit(1);
 }
 
-/* a good store of few or, now and then, of many letters, whose rows were taken and given back */
-static void make_good(void)
+/* a good store of few or, now and then, of many letters, whose rows were taken and given back; of the letters two are
+ * partners, and some join as a pair around the whole record, so that an inverted one has repeats too */
+static void make_good(unsigned reading)
 {
     unsigned capacity = random_below(20) ? 1 + random_below(random_below(2) ? 6 : 30) : 200 + random_below(825);
     unsigned alphabet = 1 + random_below(4), turns = random_below(capacity < 100 ? 3 * capacity : 150), removing = random_below(50);
     good_length = MIRROR_STORE_SIZE(capacity) + random_below(3) * 7;
     for (size_t i = 0; i < good_length; i++) good[i] = (uint8_t)random_below(256);
-    mirror_open(good, good_length, capacity);
+    oracle_open(good, good_length, reading, capacity);
     for (unsigned i = 0; i < turns; i++) {
-        unsigned letter = (unsigned)"ACGT"[random_below(alphabet)];
+        unsigned letter = (unsigned)"ATCG"[random_below(alphabet)];
         if (random_below(100) < removing) (random_below(2) ? mirror_remove_left : mirror_remove_right)(good, good_length);
         else (random_below(2) ? mirror_add_left : mirror_add_right)(good, good_length, letter);
+        if (random_below(4) > 0) continue;
+        mirror_add_left(good, good_length, brute_rule(reading)[letter]);
+        mirror_add_right(good, good_length, letter);
     }
     const char *wrong = judge(good, good_length, &shows);
     if (wrong) stop("a store made by calls is not good", wrong);
@@ -50,12 +54,12 @@ static void one_call(const call *c)
 /* every call, with arguments that a good store would take and with arguments that it would refuse */
 static void every_call(void)
 {
-    static const unsigned char piece[] = "ACA", bad_piece[] = "AN", name[] = "rec_1", bad_name[] = "rec-1";
+    static const unsigned char piece[] = "ATAT", bad_piece[] = "AN", name[] = "rec_1", bad_name[] = "rec-1";
     unsigned row = random_below((unsigned)shows.capacity + 3), letter = (unsigned)"ACGT"[random_below(4)];
     size_t out = 64 * 1024 - random_below(2), scratch = 4 * shows.size + random_below(5);
-    for (call_kind kind = 0; kind < CALL_KINDS; kind++) {
+    for (call_kind kind = ADD_LEFT; kind < CALL_KINDS; kind++) {
         call c = {kind, kind == LETTER ? random_below((unsigned)shows.size + 1) : kind == ROW || kind == SPELL ? row : letter, NULL, 0, 0, 0};
-        if (kind == FIND) c.text = piece, c.text_length = 1 + random_below(3);
+        if (kind == FIND) c.text = piece, c.text_length = 1 + random_below(4);
         if (kind == SPELL) c.out_length = shows.size + random_below(3);
         if (kind == LIST) c.text = name, c.text_length = 5, c.scratch_length = scratch, c.out_length = out;
         one_call(&c);
@@ -72,17 +76,17 @@ static void work_on(void)
 {
     uint8_t *store = guarded(STORE_SLOT, damaged, damaged_length);
     for (int i = 0; i < 6; i++) {
-        call c = {(call_kind)random_below(4), (unsigned)"ACGT"[random_below(4)], NULL, 0, 0, 0};
+        call c = {(call_kind)(ADD_LEFT + random_below(4)), (unsigned)"ACGT"[random_below(4)], NULL, 0, 0, 0};
         oracle(store, damaged_length, &c);
     }
 }
 
-static void one_damage(const damage *d, unsigned long tally[2])
+static void one_damage(const damage *d, unsigned reading, unsigned long tally[2])
 {
     int idle = 0;
     do {
         if (idle++ > IDLE_LIMIT) stop(d->name, "never found a store to damage");
-        make_good();
+        make_good(reading);
         memcpy(damaged, good, good_length);
         damaged_length = good_length;
     } while (!d->make(damaged, &damaged_length, &shows));
@@ -94,14 +98,14 @@ static void one_damage(const damage *d, unsigned long tally[2])
     made[wrong != NULL]++;
 }
 
-static void one_kind(const damage *d, int rounds)
+static void one_kind(const damage *d, unsigned reading, int rounds)
 {
     unsigned long tally[2] = {0, 0};
     for (int i = 0; i < rounds; i++) {
         guard_at(i % 2 ? GUARD_BEFORE : GUARD_AFTER);
-        one_damage(d, tally);
+        one_damage(d, reading, tally);
     }
-    printf("%-28s %5lu good %5lu bad\n", d->name, tally[0], tally[1]);
+    printf("%-28s %-8s %5lu good %5lu bad\n", d->name, reading == PLAIN ? "plain" : "inverted", tally[0], tally[1]);
     if ((d->outcomes & MAKES_GOOD) && tally[0] == 0) stop(d->name, "no store was good");
     if ((d->outcomes & MAKES_BAD) && tally[1] == 0) stop(d->name, "no store was bad");
     if (!(d->outcomes & (MAKES_GOOD | MAY_BE_GOOD)) && tally[0] > 0) stop(d->name, "a store was good");
@@ -111,9 +115,10 @@ static void one_kind(const damage *d, int rounds)
 int main(int argc, char **argv)
 {
     random_seed(argc > 1 ? argv[1] : NULL, 20251116);
-    int rounds = argc > 2 ? atoi(argv[2]) : 300;
+    int rounds = argc > 2 ? atoi(argv[2]) : 200;
     setvbuf(stdout, NULL, _IOLBF, 0);
-    for (size_t i = 0; i < damage_kinds; i++) one_kind(&damages[i], rounds);
+    for (size_t i = 0; i < damage_kinds; i++)
+        for (unsigned reading = PLAIN; reading < READINGS; reading++) one_kind(&damages[i], reading, rounds);
     if (for_header * 2 > made[1]) stop("damage", "most stores are bad for their header alone");
     printf("%lu damaged stores judged good, %lu bad (%lu of them by the header), %lu calls agree\n", made[0], made[1], for_header, oracle_calls);
     return 0;

@@ -45,7 +45,7 @@ static int junk(uint8_t *store, size_t *length, const shown *s)
     layout_put(store, 0, CELL_CAPACITY, capacity);
     layout_put(store, 0, CELL_SIZE, (unsigned)s->size);
     layout_put(store, 0, CELL_COUNT, (unsigned)s->count);
-    layout_put(store, 0, CELL_READING, 0);
+    layout_put(store, 0, CELL_READING, s->reading);
     return 1;
 }
 
@@ -61,6 +61,9 @@ const damage damages[] = {
     {"one bit", MAKES_GOOD | MAKES_BAD, one_bit},
     {"one field", MAKES_BAD, one_field},
     {"a header field", MAKES_BAD | MAY_BE_GOOD, header_field},
+    {"letters read otherwise", MAKES_BAD, other_reading_of_letters},
+    {"no letters, read otherwise", MAKES_GOOD, other_reading_of_nothing},
+    {"a reading that is none", MAKES_BAD, no_reading},
     {"a smaller capacity", MAKES_GOOD | MAKES_BAD, smaller_capacity},
     {"unused cells", MAKES_GOOD, unused_cells},
     {"bytes beyond", MAKES_GOOD, bytes_beyond},
@@ -90,6 +93,7 @@ const damage damages[] = {
     {"letters reversed", MAKES_GOOD | MAKES_BAD, letters_reversed},
     {"reversed with its ends", MAKES_GOOD, reversed_with_its_ends},
     {"letters renamed", MAKES_GOOD, letters_renamed},
+    {"partners in the table", MAKES_BAD | MAY_BE_GOOD, partners_in_the_table},
     {"a letter renamed to N", MAKES_BAD, letter_renamed_to_n},
     {"a letter joined by hand", MAKES_GOOD | MAKES_BAD, letter_joined_by_hand},
     {"junk", MAKES_BAD, junk},

@@ -37,6 +37,28 @@ int header_field(uint8_t *store, size_t *length, const shown *s)
     return set_cell(store, 0, f, choice[random_below(4)] & 0xffff);
 }
 
+/* the reading cell alone: the other reading of a record with letters, which has other repeats */
+int other_reading_of_letters(uint8_t *store, size_t *length, const shown *s)
+{
+    (void)length;
+    return s->size > 0 && set_cell(store, 0, CELL_READING, 1 - s->reading);
+}
+
+/* the other reading of an empty record, which is as empty */
+int other_reading_of_nothing(uint8_t *store, size_t *length, const shown *s)
+{
+    (void)length;
+    return s->size == 0 && set_cell(store, 0, CELL_READING, 1 - s->reading);
+}
+
+/* a number that is no reading; some would be one if their low byte were read alone */
+int no_reading(uint8_t *store, size_t *length, const shown *s)
+{
+    (void)length, (void)s;
+    unsigned choice[3] = {READINGS, 256 + random_below(READINGS), READINGS + random_below(65536 - READINGS)};
+    return set_cell(store, 0, CELL_READING, choice[random_below(3)]);
+}
+
 /* the same rows read as those of a smaller capacity: good for some empty records */
 int smaller_capacity(uint8_t *store, size_t *length, const shown *s)
 {

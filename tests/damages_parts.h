@@ -20,6 +20,9 @@ DAMAGE(one_byte);
 DAMAGE(one_bit);
 DAMAGE(one_field);
 DAMAGE(header_field);
+DAMAGE(other_reading_of_letters);
+DAMAGE(other_reading_of_nothing);
+DAMAGE(no_reading);
 DAMAGE(smaller_capacity);
 DAMAGE(unused_cells);
 DAMAGE(bytes_beyond);
@@ -61,6 +64,7 @@ DAMAGE(one_letter);
 DAMAGE(letters_reversed);
 DAMAGE(reversed_with_its_ends);
 DAMAGE(letters_renamed);
+DAMAGE(partners_in_the_table);
 DAMAGE(letter_renamed_to_n);
 DAMAGE(letter_joined_by_hand);
 

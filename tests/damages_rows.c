@@ -1,9 +1,6 @@
 /* Damage to rows as wholes: under other numbers, in another order, too many or too few. */
 #include "damages_parts.h"
 #include "random.h"
-#include <string.h>
-
-static unsigned char plain[256];
 
 /* ---- rows under other numbers */
 
@@ -106,14 +103,10 @@ static int open_edge(const uint8_t *store, unsigned r)
 /* fills row q as the eertree would for the word around row r, and hangs it at r */
 static void hang(uint8_t *store, const shown *s, unsigned q, unsigned r, int c)
 {
-    unsigned char word[LAYOUT_MOST + 2];
-    size_t n = r < 2 ? 0 : s->rows[r].end - s->rows[r].start, m = r == 0 ? 1 : n + 2;
-    word[0] = word[n + 1] = (unsigned char)"ACGT"[c];
-    if (n > 0) memcpy(word + 1, s->letters + s->rows[r].start, n);
-    brute_plain(plain);
-    size_t link = brute_link(plain, word, m);
-    unsigned link_row = link && link <= s->size ? judge_row(s, word + m - link, link) : 0;
-    unsigned row[8] = {(unsigned)m + 1, link_row ? link_row : 1, r, word[0], 0, 0, 0, 0};
+    unsigned char word[LAYOUT_MOST + 2], letter = (unsigned char)"ACGT"[c];
+    size_t m = judge_around(s, r, letter, word), link = brute_link(s->rule, word, m);
+    unsigned link_row = judge_row(s, word + m - link, link);
+    unsigned row[8] = {(unsigned)m + 1, link_row ? link_row : 1, r, letter, 0, 0, 0, 0};
     for (size_t f = 0; f < 8; f++) layout_put(store, q, f, row[f]);
     layout_put(store, r, CELL_EDGES + (size_t)c, q);
 }

@@ -23,7 +23,7 @@ uint64_t reference_longest_length(bytes, size_t, bytes, size_t);
 uint64_t reference_longest_place(bytes, size_t, bytes, size_t);
 
 static unsigned long compared;
-static unsigned char rules[3][256];
+static bytes rules[3];
 
 static void same(const char *what, int rule, bytes s, size_t n, uint64_t wanted, uint64_t got)
 {
@@ -73,14 +73,15 @@ static unsigned next(unsigned below)
 
 int main(int argc, char **argv)
 {
-    unsigned char s[64];
+    unsigned char s[64], third[256];
     state = argc > 1 ? strtoull(argv[1], NULL, 10) * 2654435761u + 1 : 20251101;
     int rounds = argc > 2 ? atoi(argv[2]) : 400;
-    brute_plain(rules[0]);
-    brute_inverted(rules[1]);
-    brute_plain(rules[2]);
-    rules[2]['A'] = 'C';
-    rules[2]['C'] = 'A';
+    memcpy(third, brute_rule(PLAIN), sizeof third);
+    third['A'] = 'C';
+    third['C'] = 'A';
+    rules[0] = brute_rule(PLAIN);
+    rules[1] = brute_rule(INVERTED);
+    rules[2] = third;
 
     for (size_t n = 0; n <= 6; n++)
         for (unsigned code = 0; code < 1u << (2 * n); code++) {
@@ -91,8 +92,8 @@ int main(int argc, char **argv)
         size_t n = 7 + next(50);
         unsigned letters = 1 + next(4), period = 1 + next(8);
         for (size_t i = 0; i < n; i++) s[i] = round % 2 && i >= period ? s[i - period] : (unsigned char)"ACGT"[next(letters)];
-        if (round % 3 == 0)
-            for (size_t i = 0; i < n / 2; i++) s[n - 1 - i] = rules[round % 3][s[i]];
+        if (round % 3 == 0) /* symmetric by each rule in turn, but for the middle letter */
+            for (size_t i = 0; i < n / 2; i++) s[n - 1 - i] = rules[round / 3 % 3][s[i]];
         for (int which = 0; which < 3; which++) record(which, s, n);
     }
     printf("%lu answers of the definitions agree with every stretch\n", compared);

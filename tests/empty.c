@@ -18,6 +18,7 @@ static void must(const char *what, uint64_t got, uint64_t wanted)
 static void no_store(uint8_t *p)
 {
     must("open", mirror_open(p, 0, 1), MIRROR_STORE_SHORT);
+    must("open_inverted", mirror_open_inverted(p, 0, 1), MIRROR_STORE_SHORT);
     must("add_left", mirror_add_left(p, 0, 'A'), MIRROR_DAMAGED);
     must("add_right", mirror_add_right(p, 0, 'A'), MIRROR_DAMAGED);
     must("remove_left", mirror_remove_left(p, 0), MIRROR_DAMAGED);
@@ -47,6 +48,17 @@ static void no_buffer(uint8_t *p)
     must("list a letter", mirror_list(store, sizeof store, (const uint8_t *)"e1", 2, p, 0, p, 0), MIRROR_NO_ROOM);
 }
 
+/* an inverted record of a letter has no repeat: it is listed with scratch and no output */
+static void no_repeat(uint8_t *p)
+{
+    uint8_t scratch[4];
+    mirror_open_inverted(store, sizeof store, 4);
+    must("an empty list", mirror_list(store, sizeof store, (const uint8_t *)"e1", 2, p, 0, p, 0), 0);
+    mirror_add_right(store, sizeof store, 'A');
+    must("no scratch", mirror_list(store, sizeof store, (const uint8_t *)"e1", 2, p, 0, p, 0), MIRROR_NO_ROOM);
+    must("no output", mirror_list(store, sizeof store, (const uint8_t *)"e1", 2, scratch, sizeof scratch, p, 0), 0);
+}
+
 /* texts and letters at p */
 static void no_text(uint8_t *p)
 {
@@ -61,6 +73,7 @@ int main(void)
     for (unsigned i = 0; i < 3; i++) {
         no_store(wild[i]);
         no_buffer(wild[i]);
+        no_repeat(wild[i]);
         no_text(wild[i]);
     }
     printf("%u calls with an empty buffer at no place\n", asked);

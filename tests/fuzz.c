@@ -2,10 +2,11 @@
  * against the oracle. It runs under libFuzzer (tests/fuzz-run), under AFL++ and by hand: the standalone program reads
  * the files named, or standard input.
  *
- * The first byte gives the capacity. Then: acgt add at the right, ACGT at the left, < and > remove at an end,
- * ? and a byte ask a question, ! and three bytes change a byte, = and three bytes set a cell, # and two bytes do one of
- * the kinds of damages.c, ~ takes the last good store again, / and a byte change the length lent, @ and a byte open
- * again. Any other byte is added as a letter that is none. A missing argument is 0. */
+ * The first byte gives the capacity and, from 128 on, an inverted record. Then: acgt add at the right, ACGT at the left,
+ * < and > remove at an end, ? and a byte ask a question, ! and three bytes change a byte, = and three bytes set a cell, # and
+ * two bytes do one of the kinds of damages.c, ~ takes the last good store again, / and a byte change the length lent, @ and a
+ * byte open again, & and a byte open an inverted record. Any other byte is added as a letter that is none. A missing
+ * argument is 0. */
 #include "damages.h"
 #include "guard.h"
 #include "oracle.h"
@@ -76,10 +77,10 @@ static void restore(void)
     length = kept_length;
 }
 
-static void open_again(unsigned number)
+static void open_again(unsigned reading, unsigned number)
 {
     uint64_t capacity = number < 250 ? number % 24 + 1 : number == 250 ? 1025 : number - 251;
-    if (oracle_open(store, length, capacity) != 0) return;
+    if (oracle_open(store, length, reading, capacity) != 0) return;
     memcpy(kept, store, length);
     kept_length = length;
 }
@@ -98,7 +99,8 @@ static void one(unsigned what)
     case '#': spoil(); break;
     case '~': restore(); break;
     case '/': length = whole - next() % 12; break;
-    case '@': open_again(next()); break;
+    case '@': open_again(PLAIN, next()); break;
+    case '&': open_again(INVERTED, next()); break;
     default: make(what % 2 ? ADD_LEFT : ADD_RIGHT, what < 128 ? what : (uint64_t)what << (what % 57));
     }
 }
@@ -114,7 +116,7 @@ int LLVMFuzzerTestOneInput(const uint8_t *data, size_t size)
     memset(store, (int)first, whole);
     memcpy(kept, store, whole);
     kept_length = whole;
-    open_again(first % 24);
+    open_again(first < 128 ? PLAIN : INVERTED, first % 24);
     while (left_over > 0) one(next());
     make(COUNT, 0);
     return 0;
@@ -130,7 +132,7 @@ static void run(FILE *in)
 /* inputs that look random, mostly of bytes that mean something */
 static void run_random(const char *seed, int rounds)
 {
-    static const char meant[] = "acgtACGTacgtACGT<>?#~!=/@";
+    static const char meant[] = "acgtACGTacgtACGT<>?#~!=/@&";
     uint8_t data[200];
     for (int i = 0; i < rounds; i++) {
         random_seed(NULL, strtoull(seed, NULL, 10) * 1000003u + 2u * (unsigned)i + 1);

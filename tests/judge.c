@@ -1,8 +1,6 @@
 #include "judge.h"
 #include <string.h>
 
-static unsigned char plain[256];
-
 static const char *header(const uint8_t *store, size_t length, shown *s)
 {
     if (length < layout_size(1)) return "header: too short for any capacity";
@@ -12,7 +10,9 @@ static const char *header(const uint8_t *store, size_t length, shown *s)
     if (s->capacity < 1 || s->capacity > LAYOUT_MOST) return "header: capacity outside 1 to 1,024";
     if (length < layout_size(s->capacity)) return "header: too short for its capacity";
     if (s->size > s->capacity) return "header: more letters than the capacity";
-    if (layout_cell(store, 0, CELL_READING) != 0) return "header: a reading that is not plain";
+    s->reading = layout_cell(store, 0, CELL_READING);
+    if (s->reading >= READINGS) return "header: a reading that is none";
+    s->rule = brute_rule(s->reading);
     return NULL;
 }
 
@@ -48,7 +48,8 @@ static const char *free_rows(const uint8_t *store, const shown *s)
     return NULL;
 }
 
-/* what a row spells, outermost letters first along the inner rows; 0 where that leads nowhere or past the record */
+/* what a row spells, its outer letters last and their partners first along the inner rows; 0 where that leads nowhere or
+ * past the record */
 static size_t spelling(const uint8_t *store, const shown *s, size_t row, unsigned char *word)
 {
     size_t half = 0;
@@ -61,7 +62,11 @@ static size_t spelling(const uint8_t *store, const shown *s, size_t row, unsigne
     }
     size_t n = 2 * half - (row == 0);
     if (n > s->size) return 0;
-    for (size_t i = 0; i < n / 2; i++) word[n - 1 - i] = word[i];
+    for (size_t i = 0; i < half; i++) {
+        unsigned char outer = word[i];
+        word[i] = s->rule[outer];
+        word[n - 1 - i] = outer;
+    }
     return n;
 }
 
@@ -70,13 +75,13 @@ static const char *words(const uint8_t *store, shown *s)
 {
     static stretch all[LAYOUT_MOST];
     unsigned char word[2 * LAYOUT_MOST + 2];
-    if (s->count != brute_list(plain, s->letters, s->size, all)) return "count: not the number of palindromes";
+    if (s->count != brute_list(s->rule, s->letters, s->size, all)) return "count: not the number of palindromes";
     for (size_t r = 2; r < s->capacity + 2; r++) {
         if (!s->used[r]) continue;
         size_t n = spelling(store, s, r, word);
         if (n == 0) return "row: its inner rows lead nowhere";
         size_t first = brute_first(word, n, s->letters, s->size);
-        if (first > s->size) return "row: no palindrome of the record";
+        if (first > s->size || !brute_palindrome(s->rule, word, n)) return "row: no palindrome of the record";
         s->rows[r].start = first;
         s->rows[r].end = first + n;
         for (size_t q = 2; q < r; q++)
@@ -87,10 +92,20 @@ static const char *words(const uint8_t *store, shown *s)
 
 unsigned judge_row(const shown *s, const unsigned char *word, size_t n)
 {
+    if (n == 0) return 1;
     size_t first = brute_first(word, n, s->letters, s->size);
     for (unsigned r = 2; r < s->capacity + 2; r++)
         if (s->used[r] && s->rows[r].start == first && s->rows[r].end == first + n) return r;
     return 0;
+}
+
+size_t judge_around(const shown *s, size_t r, unsigned char letter, unsigned char *word)
+{
+    size_t n = r < 2 ? 0 : s->rows[r].end - s->rows[r].start, before = r != 0;
+    word[0] = s->rule[letter];
+    if (n > 0) memcpy(word + before, s->letters + s->rows[r].start, n);
+    word[before + n] = letter;
+    return before + n + 1;
 }
 
 static const char *fields(const uint8_t *store, const shown *s)
@@ -102,10 +117,10 @@ static const char *fields(const uint8_t *store, const shown *s)
     for (size_t r = 2; r < s->capacity + 2; r++) {
         if (!s->used[r]) continue;
         const unsigned char *w = s->letters + s->rows[r].start;
-        size_t n = s->rows[r].end - s->rows[r].start, link = brute_link(plain, w, n);
+        size_t n = s->rows[r].end - s->rows[r].start, link = brute_link(s->rule, w, n);
         if (layout_cell(store, r, CELL_LENGTH) != n + 1) return "row: length";
-        if (layout_cell(store, r, CELL_LINK) != (link ? judge_row(s, w + n - link, link) : 1)) return "row: link";
-        if (layout_cell(store, r, CELL_INNER) != (n == 1 ? 0 : n == 2 ? 1 : judge_row(s, w + 1, n - 2))) return "row: inner row";
+        if (layout_cell(store, r, CELL_LINK) != judge_row(s, w + n - link, link)) return "row: link";
+        if (layout_cell(store, r, CELL_INNER) != (n == 1 ? 0 : judge_row(s, w + 1, n - 2))) return "row: inner row";
     }
     return NULL;
 }
@@ -116,11 +131,8 @@ static const char *edges(const uint8_t *store, const shown *s)
     unsigned char word[LAYOUT_MOST + 2];
     for (size_t r = 0; r < s->capacity + 2; r++) {
         if (!s->used[r]) continue;
-        size_t n = r < 2 ? 0 : s->rows[r].end - s->rows[r].start;
         for (size_t c = 0; c < 4; c++) {
-            word[0] = word[n + 1] = (unsigned char)"ACGT"[c];
-            if (n > 0) memcpy(word + 1, s->letters + s->rows[r].start, n);
-            size_t m = r == 0 ? 1 : n + 2;
+            size_t m = judge_around(s, r, (unsigned char)"ACGT"[c], word);
             unsigned wanted = m > s->size || brute_first(word, m, s->letters, s->size) > s->size ? 0 : judge_row(s, word, m);
             if (layout_cell(store, r, CELL_EDGES + c) != wanted) return "row: edge";
         }
@@ -130,17 +142,15 @@ static const char *edges(const uint8_t *store, const shown *s)
 
 static const char *ends(const uint8_t *store, const shown *s)
 {
-    size_t n = brute_left(plain, s->letters, s->size), m = brute_right(plain, s->letters, s->size);
-    unsigned left = n ? judge_row(s, s->letters, n) : 1, right = m ? judge_row(s, s->letters + s->size - m, m) : 1;
-    if (layout_cell(store, 1, CELL_LEFT) != left) return "ends: left";
-    if (layout_cell(store, 1, CELL_RIGHT) != right) return "ends: right";
+    size_t n = brute_left(s->rule, s->letters, s->size), m = brute_right(s->rule, s->letters, s->size);
+    if (layout_cell(store, 1, CELL_LEFT) != judge_row(s, s->letters, n)) return "ends: left";
+    if (layout_cell(store, 1, CELL_RIGHT) != judge_row(s, s->letters + s->size - m, m)) return "ends: right";
     return NULL;
 }
 
 const char *judge(const uint8_t *store, size_t length, shown *s)
 {
     const char *wrong;
-    brute_plain(plain);
     memset(s, 0, sizeof *s);
     if ((wrong = header(store, length, s)) || (wrong = letters(store, s)) || (wrong = sparse_set(store, s))) return wrong;
     if ((wrong = words(store, s)) || (wrong = free_rows(store, s)) || (wrong = fields(store, s))) return wrong;

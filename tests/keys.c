@@ -1,6 +1,7 @@
 /* The sittings with known keys of the scope, as its table has them, through the C boundary. Those without a star are
  * here only; the starred ones are proved (crates/known_answers) and run here too, at several capacities and built from either end.
- * A key is compared as it stands in the table, and no other program is asked. Beside the table: small letters are refused. */
+ * A key is compared as it stands in the table, and no other program is asked. Beside the table: small letters are refused, and
+ * the keys of inverted records that 02 (vi) and source 004 have. Keys that ask for no repeat are run with either opening. */
 #include "mirror.h"
 #include <stdio.h>
 #include <stdlib.h>
@@ -11,6 +12,10 @@ static size_t length;
 static unsigned long compared;
 static const char *sitting;
 
+/* either opening of include/mirror.h */
+typedef uint64_t opening(uint8_t *, size_t, uint64_t);
+static opening *const openings[] = {mirror_open, mirror_open_inverted};
+
 static void key(const char *what, uint64_t wanted, uint64_t got)
 {
     compared++;
@@ -20,13 +25,13 @@ static void key(const char *what, uint64_t wanted, uint64_t got)
 }
 
 /* opens a record and adds the letters at the right, or from the last to the first at the left */
-static void record(const char *letters, uint64_t capacity, int from_left)
+static void record(opening *open, const char *letters, uint64_t capacity, int from_left)
 {
     size_t n = strlen(letters);
     sitting = n ? letters : "empty";
     length = MIRROR_STORE_SIZE(capacity);
     memset(store, 0xee, sizeof store);
-    key("open", 0, mirror_open(store, length, capacity));
+    key("open", 0, open(store, length, capacity));
     for (size_t i = 0; i < n; i++) {
         uint64_t answer = from_left ? mirror_add_left(store, length, (unsigned char)letters[n - 1 - i])
                                     : mirror_add_right(store, length, (unsigned char)letters[i]);
@@ -68,17 +73,17 @@ static void goes(int left, char letter, const char *repeat)
 
 /* ---- without a star */
 
-static void empty_at_every_capacity(void)
+static void empty_at_every_capacity(opening *open)
 {
     for (uint64_t capacity = 1; capacity <= 1024; capacity++) {
-        record("", capacity, 0);
+        record(open, "", capacity, 0);
         key("remove left", 6, mirror_remove_left(store, length));
         key("letter at 0", 7, mirror_letter(store, length, 0));
     }
 }
 
 /* any record of 1,024 letters */
-static void full(const char *name, const char *period)
+static void full(opening *open, const char *name, const char *period)
 {
     char letters[1025];
     size_t n = strlen(period);
@@ -87,7 +92,7 @@ static void full(const char *name, const char *period)
         for (size_t i = 0; i < 1024; i++) letters[i] = "ACGT"[(i * i / 3 + i * 7) % 4];
     letters[1024] = 0;
     for (int from_left = 0; from_left < 2; from_left++) {
-        record(letters, 1024, from_left);
+        record(open, letters, 1024, from_left);
         sitting = name;
         key("add N left", 4, mirror_add_left(store, length, 'N'));
         key("add N right", 4, mirror_add_right(store, length, 'N'));
@@ -97,10 +102,10 @@ static void full(const char *name, const char *period)
 }
 
 /* 02 (i): a FASTA text may have small letters, the adding call and find take capitals only */
-static void capitals_only(void)
+static void capitals_only(opening *open)
 {
     static const char small[] = "acgt";
-    record("ACGT", 8, 0);
+    record(open, "ACGT", 8, 0);
     sitting = "small letters";
     for (size_t i = 0; i < 4; i++) {
         const char piece[] = {small[i], 0};
@@ -114,57 +119,132 @@ static void capitals_only(void)
 
 static void short_records(uint64_t capacity, int from_left)
 {
-    record("", capacity, from_left);
+    record(mirror_open, "", capacity, from_left);
     key("count", 0, count());
-    record("AAAA", capacity, from_left);
+    record(mirror_open, "AAAA", capacity, from_left);
     key("count", 4, count());
     longest(4, 0);
     goes(0, 'A', "AAAA");
-    record("ACGA", capacity, from_left);
+    record(mirror_open, "ACGA", capacity, from_left);
     key("count", 3, count());
     goes(1, 'A', NULL);
-    record("ACAC", capacity, from_left);
+    record(mirror_open, "ACAC", capacity, from_left);
     goes(1, 'A', "ACA");
     key("count", 3, count());
 }
 
 static void longer_records(uint64_t capacity, int from_left)
 {
-    record("ACA", capacity, from_left);
+    record(mirror_open, "ACA", capacity, from_left);
     uint64_t answer = mirror_add_right(store, length, 'C');
     key("CAC is new", 1ull << 8 | row_of("CAC") << 16, answer);
     key("count", 4, count());
-    record("ACGA", capacity, from_left);
+    record(mirror_open, "ACGA", capacity, from_left);
     key("add G left: none new", 0, mirror_add_left(store, length, 'G'));
     key("count", 3, count());
-    record("ACCACG", capacity, from_left);
+    record(mirror_open, "ACCACG", capacity, from_left);
     key("count", 6, count());
     answer = mirror_row(store, length, row_of("ACCA"));
     key("link of ACCA", row_of("A"), mirror_row_of(answer));
     key("inner of ACCA", row_of("CC"), mirror_second(answer));
     key("find GG", 0, found("GG"));
-    record("ACGAAG", capacity, from_left);
+    record(mirror_open, "ACGAAG", capacity, from_left);
     key("count", 5, count());
     longest(4, 2);
+}
+
+/* ---- inverted records */
+
+/* the list, its lines written as in the key */
+static void listed(const char *lines)
+{
+    static uint8_t scratch[MIRROR_LIST_SCRATCH(1024)], out[MIRROR_LIST_SIZE(1024)];
+    uint64_t n = strlen(lines), answer = mirror_list(store, length, (const uint8_t *)"e1", 2, scratch, sizeof scratch, out, sizeof out);
+    key("the list's length", n << 32, answer);
+    key("the list", 0, memcmp(out, lines, n) != 0);
+}
+
+/* 02 (vi): GAATTC has three repeats: AT, AATT and GAATTC */
+static void three_repeats(uint64_t capacity, int from_left)
+{
+    record(mirror_open_inverted, "GAATTC", capacity, from_left);
+    key("count", 3, count());
+    listed("e1\t2\t4\ne1\t1\t5\ne1\t0\t6\n");
+    longest(6, 0);
+    key("find A", 0, found("A"));
+    key("find TT", 0, found("TT"));
+    key("row of AT", 1ull << 16 | 2ull << 32 | 1ull << 48, mirror_row(store, length, row_of("AT")));
+    key("row of AATT", 1ull << 16 | 4ull << 32 | row_of("AT") << 48, mirror_row(store, length, row_of("AATT")));
+    key("row of GAATTC", 1ull << 16 | 6ull << 32 | row_of("AATT") << 48, mirror_row(store, length, row_of("GAATTC")));
+    goes(0, 'C', "GAATTC");
+    key("AATT at the right, once only", 1ull << 8 | row_of("AATT") << 16, mirror_longest_right(store, length));
+    key("nothing at the left: row 1", 1ull << 16, mirror_longest_left(store, length));
+    goes(1, 'G', NULL);
+    key("count", 2, count());
+}
+
+/* letters that stand without a repeat */
+static void without_repeat(const char *letters, uint64_t capacity, int from_left)
+{
+    record(mirror_open_inverted, letters, capacity, from_left);
+    key("count", 0, count());
+    listed("");
+    longest(0, 0);
+    key("nothing at the left: row 1", 1ull << 16, mirror_longest_left(store, length));
+    key("nothing at the right: row 1", 1ull << 16, mirror_longest_right(store, length));
+    key("find all of it", 0, found(letters));
+}
+
+/* 02 (vi): what a record answers that has no letter, or no repeat: 004's AGTCT, where T faces itself in the middle */
+static void no_repeats(uint64_t capacity, int from_left)
+{
+    record(mirror_open_inverted, "", capacity, from_left);
+    key("longest of nothing", 6, mirror_longest(store, length));
+    key("longest left of nothing", 6, mirror_longest_left(store, length));
+    key("longest right of nothing", 6, mirror_longest_right(store, length));
+    listed("");
+    without_repeat("A", capacity, from_left);
+    without_repeat("AGTCT", capacity, from_left);
+    key("add G left: none new", 0, mirror_add_left(store, length, 'G'));
+    goes(1, 'G', NULL);
+    key("count", 0, count());
+}
+
+/* 004: ACCTGCAGGT */
+static void nested_repeats(uint64_t capacity, int from_left)
+{
+    record(mirror_open_inverted, "ACCTGCAGGT", capacity, from_left);
+    key("count", 5, count());
+    listed("e1\t4\t6\ne1\t3\t7\ne1\t2\t8\ne1\t1\t9\ne1\t0\t10\n");
+    longest(10, 0);
+}
+
+/* the keys that ask for no repeat */
+static void either_reading(opening *open)
+{
+    empty_at_every_capacity(open);
+    full(open, "1,024 A", "A");
+    full(open, "512 AC", "AC");
+    full(open, "ACGT again and again", "ACGT");
+    full(open, "a palindrome again and again", "AACCAA");
+    full(open, "an uneven record", "");
+    capitals_only(open);
+    record(open, "A", 1, 0);
+    key("add C right", 5, mirror_add_right(store, length, 'C'));
 }
 
 int main(void)
 {
     static const uint64_t capacities[] = {6, 7, 64, 1023, 1024};
-    empty_at_every_capacity();
-    full("1,024 A", "A");
-    full("512 AC", "AC");
-    full("ACGT again and again", "ACGT");
-    full("a palindrome again and again", "AACCAA");
-    full("an uneven record", "");
-    capitals_only();
+    for (size_t i = 0; i < sizeof openings / sizeof openings[0]; i++) either_reading(openings[i]);
     for (size_t k = 0; k < sizeof capacities / sizeof capacities[0]; k++)
         for (int from_left = 0; from_left < 2; from_left++) {
             short_records(capacities[k], from_left);
             longer_records(capacities[k], from_left);
+            three_repeats(capacities[k], from_left);
+            no_repeats(capacities[k], from_left);
+            if (capacities[k] >= 10) nested_repeats(capacities[k], from_left);
         }
-    record("A", 1, 0);
-    key("add C right", 5, mirror_add_right(store, length, 'C'));
     printf("%lu keys\n", compared);
     return 0;
 }

@@ -4,13 +4,16 @@
 #define LIBRARY_H
 #include "mirror.h"
 
+/* the calls that open a store, in the order of the readings that they give it */
+#define EACH_OPENING(X) X(OPEN, open) X(OPEN_INVERTED, open_inverted)
+
 /* the calls that test the store that they take */
 #define EACH_STORE_CALL(X)                                                                                        \
     X(ADD_LEFT, add_left) X(ADD_RIGHT, add_right) X(REMOVE_LEFT, remove_left) X(REMOVE_RIGHT, remove_right)       \
     X(LENGTH, length) X(COUNT, count) X(LONGEST, longest) X(LONGEST_LEFT, longest_left)                           \
     X(LONGEST_RIGHT, longest_right) X(LETTER, letter) X(ROW, row) X(SPELL, spell) X(FIND, find) X(LIST, list)
 
-#define EACH_CALL(X) X(OPEN, open) EACH_STORE_CALL(X) X(FASTA, fasta)
+#define EACH_CALL(X) EACH_OPENING(X) EACH_STORE_CALL(X) X(FASTA, fasta)
 
 #define LIBRARY_ENTRY(kind, name) __typeof__(mirror_##name) *name;
 #define LIBRARY_ONE(kind, name) +1

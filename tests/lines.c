@@ -17,7 +17,7 @@ static int stands_before(const unsigned char *s, size_t start, size_t length)
 
 int main(int argc, char **argv)
 {
-    static unsigned char s[MOST], rule[256];
+    static unsigned char s[MOST];
     size_t n = 0;
     int byte;
 
@@ -27,10 +27,9 @@ int main(int argc, char **argv)
         if (n == MOST) return 2;
         s[n++] = (unsigned char)byte;
     }
-    brute_plain(rule);
     for (size_t end = 1; end <= n; end++)
         for (size_t start = 0; start < end; start++)
-            if (brute_palindrome(rule, s + start, end - start) && !stands_before(s, start, end - start))
+            if (brute_palindrome(brute_rule(PLAIN), s + start, end - start) && !stands_before(s, start, end - start))
                 printf("%s\t%zu\t%zu\n", argv[1], start, end);
     return 0;
 }

@@ -11,7 +11,7 @@ enum { SHORT = 48, MIDDLING = 200, PIECE_SLOT = 0, OUT_SLOT, SCRATCH_SLOT, STORE
 
 unsigned long model_calls, model_facts;
 
-static unsigned char plain[256];
+static const unsigned char *rule;
 static unsigned char letters[MODEL_MOST];
 static size_t length, capacity, count;
 static struct { size_t length; unsigned char word[MODEL_MOST]; unsigned row; } repeats[MODEL_MOST];
@@ -26,8 +26,8 @@ size_t model_length(void)
 
 static void fail(const char *what, unsigned long long wanted, unsigned long long got)
 {
-    printf("call %lu, %.*s (capacity %zu): %s: wanted %llx, got %llx\n", model_calls, (int)(length < 100 ? length : 100), (char *)letters,
-           capacity, what, wanted, got);
+    printf("call %lu, %.*s (%s, capacity %zu): %s: wanted %llx, got %llx\n", model_calls, (int)(length < 100 ? length : 100), (char *)letters,
+           rule == brute_rule(PLAIN) ? "plain" : "inverted", capacity, what, wanted, got);
     exit(1);
 }
 
@@ -56,8 +56,10 @@ static long known(const unsigned char *w, size_t n)
     return -1;
 }
 
+/* row 1 for the empty word: an end or a link without a repeat */
 static unsigned row_of(const unsigned char *w, size_t n)
 {
+    if (n == 0) return 1;
     long i = known(w, n);
     if (i < 0) fail("a repeat has no row", 0, 0);
     return repeats[i].row;
@@ -72,10 +74,10 @@ static uint64_t find(const unsigned char *w, size_t n)
 static void ask_repeat(size_t i)
 {
     const unsigned char *w = repeats[i].word;
-    size_t n = repeats[i].length, link = brute_link(plain, w, n);
+    size_t n = repeats[i].length, link = brute_link(rule, w, n);
     unsigned row = repeats[i].row;
-    unsigned link_row = link ? row_of(w + n - link, link) : 1;
-    unsigned inner_row = n == 1 ? 0 : n == 2 ? 1 : row_of(w + 1, n - 2);
+    unsigned link_row = row_of(w + n - link, link);
+    unsigned inner_row = n == 1 ? 0 : row_of(w + 1, n - 2);
     uint8_t *out = guard_room(OUT_SLOT, n);
 
     same("find", packed(1, row, 0, 0), find(w, n));
@@ -116,7 +118,7 @@ static void ask_pieces(void)
     unsigned char piece[MODEL_MOST + 1];
     memcpy(piece, letters, length);
     for (size_t at = 0; at < length && at < SHORT; at++)
-        for (size_t n = 2; n <= 4 && at + n <= length; n++) {
+        for (size_t n = 1; n <= 4 && at + n <= length; n++) {
             piece[at]++;
             same("find, no letter", 4, find(piece + at, n));
             piece[at]--;
@@ -131,25 +133,29 @@ static void ask_pieces(void)
     same("find a small letter among others", 4, find((const unsigned char *)"AcA", 3));
 }
 
-/* the lent buffers around one accepted list */
+/* the lent buffers around refused lists and accepted ones, with no byte to spare and with some */
 static void listed(const char *text, size_t size, const uint8_t *name, size_t name_length)
 {
-    uint8_t *out = guard_room(OUT_SLOT, size + 3), *scratch = guard_room(SCRATCH_SLOT, 4 * length + 2);
-    memset(out, 5, size + 3);
+    uint8_t *out = guard_room(OUT_SLOT, size + 2), *scratch = guard_room(SCRATCH_SLOT, 4 * length + 2);
+    memset(out, 5, size + 2);
     memset(scratch, 6, 4 * length + 2);
     if (size > 0) same("list, output short", 9, mirror_list(store, store_length, name, name_length, scratch, 4 * length, out, size - 1));
     if (length > 0) same("list, scratch short", 9, mirror_list(store, store_length, name, name_length, scratch, 4 * length - 1, out, size));
     same("list, no identifier", 10, mirror_list(store, store_length, name, 0, scratch, 4 * length, out, size));
     same("list, 33 bytes", 10, mirror_list(store, store_length, (const uint8_t *)"abcdefghijklmnopqrstuvwxyz_012345", 33, scratch, 4 * length, out, size));
     same("list, a dash", 10, mirror_list(store, store_length, (const uint8_t *)"a-b", 3, scratch, 4 * length, out, size));
-    for (size_t i = 0; i < size + 3; i++) same("list refused: output", 5, out[i]);
+    for (size_t i = 0; i < size + 2; i++) same("list refused: output", 5, out[i]);
     for (size_t i = 0; i < 4 * length + 2; i++) same("list refused: scratch", 6, scratch[i]);
-    same("list", packed(0, 0, size, 0), mirror_list(store, store_length, name, name_length, scratch, 4 * length + 2, out, size + 3));
-    model_facts++;
-    if (memcmp(out, text, size) != 0) fail("listed bytes", 0, 0);
-    for (size_t i = 0; i < 3; i++) same("list: output beyond", 5, out[size + i]);
-    for (size_t i = 0; i < 4 * length; i++) same("list: scratch", 0, scratch[i]);
-    for (size_t i = 0; i < 2; i++) same("list: scratch beyond", 6, scratch[4 * length + i]);
+    for (size_t spare = 0; spare <= 2; spare += 2) {
+        same("list", packed(0, 0, size, 0), mirror_list(store, store_length, name, name_length, scratch, 4 * length + spare, out, size + spare));
+        model_facts++;
+        if (memcmp(out, text, size) != 0) fail("listed bytes", 0, 0);
+        for (size_t i = 0; i < 2; i++) same("list: output beyond", 5, out[size + i]);
+        for (size_t i = 0; i < 4 * length; i++) same("list: scratch", 0, scratch[i]);
+        for (size_t i = 0; i < 2; i++) same("list: scratch beyond", 6, scratch[4 * length + i]);
+        memset(out, 5, size);
+        memset(scratch, 6, 4 * length);
+    }
 }
 
 static void ask_list(void)
@@ -157,7 +163,7 @@ static void ask_list(void)
     static stretch list[MODEL_MOST];
     static char text[64 * 1024];
     char name[64];
-    size_t n = brute_list(plain, letters, length, list), size = 0;
+    size_t n = brute_list(rule, letters, length, list), size = 0;
     size_t name_length = (size_t)sprintf(name, "rec_%zu_%.*s", n, n % 2 ? 24 : 1, "abcdefghijklmnopqrstuvwxyz");
     if (name_length > 32) name_length = 32;
     if (n != count) fail("how many repeats stand", n, count);
@@ -170,7 +176,7 @@ static void ask_list(void)
 
 static void ask_ends(void)
 {
-    size_t n = brute_left(plain, letters, length), m = brute_right(plain, letters, length), first;
+    size_t n = brute_left(rule, letters, length), m = brute_right(rule, letters, length), first;
     const unsigned char *right = letters + length - m;
     if (length == 0) {
         same("longest at the left", 6, mirror_longest_left(store, store_length));
@@ -185,7 +191,7 @@ static void ask_ends(void)
 
 void model_ask(void)
 {
-    stretch longest = brute_longest(plain, letters, length);
+    stretch longest = brute_longest(rule, letters, length);
     memcpy(before, store, store_length);
     same("length", packed(0, 0, length, 0), mirror_length(store, store_length));
     same("count", packed(0, 0, count, 0), mirror_count(store, store_length));
@@ -248,9 +254,9 @@ void model_add(int left, uint64_t letter, int undo)
         return;
     }
     join(left, letter);
-    size_t n = left ? brute_left(plain, letters, length) : brute_right(plain, letters, length);
+    size_t n = left ? brute_left(rule, letters, length) : brute_right(rule, letters, length);
     const unsigned char *w = left ? letters : letters + length - n;
-    unsigned fresh = known(w, n) < 0, row = fresh ? mirror_row_of(got) : 0;
+    unsigned fresh = n > 0 && known(w, n) < 0, row = fresh ? mirror_row_of(got) : 0;
     same("addition", packed(fresh, row, 0, 0), got);
     if (undo) {
         uint64_t back = left ? mirror_remove_left(store, store_length) : mirror_remove_right(store, store_length);
@@ -269,31 +275,31 @@ void model_remove(int left)
         unchanged("a refused removal changed the store");
         return;
     }
-    size_t n = left ? brute_left(plain, letters, length) : brute_right(plain, letters, length);
+    size_t n = left ? brute_left(rule, letters, length) : brute_right(rule, letters, length);
     unsigned letter = letters[left ? 0 : length - 1];
     memcpy(word, left ? letters : letters + length - n, n);
     long i = known(word, n);
-    if (i < 0) fail("the longest repeat at the end has no row", 0, n);
+    if (n > 0 && i < 0) fail("the longest repeat at the end has no row", 0, n);
     part(left);
-    unsigned gone = brute_first(word, n, letters, length) > length;
+    unsigned gone = n > 0 && brute_first(word, n, letters, length) > length;
     same("removal", packed(gone, gone ? repeats[i].row : 0, letter, 0), got);
     if (gone) repeats[i] = repeats[--count];
 }
 
-void model_open(size_t wanted, size_t extra)
+void model_open(unsigned reading, size_t wanted, size_t extra)
 {
-    brute_plain(plain);
+    rule = brute_rule(reading);
     capacity = wanted;
     length = count = 0;
     store_length = MIRROR_STORE_SIZE(capacity) + extra;
     store = guard_room(STORE_SLOT, store_length);
     for (size_t i = 0; i < store_length; i++) store[i] = (uint8_t)(i * 7 + wanted);
     memcpy(before, store, store_length);
-    same("capacity 0", 1, mirror_open(store, store_length, 0));
-    same("capacity 1,025", 1, mirror_open(store, store_length, 1025));
-    same("capacity 2^32 + 1", 1, mirror_open(store, store_length, (1ull << 32) + 1));
-    same("store too short", 2, mirror_open(store, MIRROR_STORE_SIZE(capacity) - 1, capacity));
-    same("capacity before length", 1, mirror_open(store, 0, 0));
+    same("capacity 0", 1, oracle_open(store, store_length, reading, 0));
+    same("capacity 1,025", 1, oracle_open(store, store_length, reading, 1025));
+    same("capacity 2^32 + 1", 1, oracle_open(store, store_length, reading, (1ull << 32) + 1));
+    same("store too short", 2, oracle_open(store, MIRROR_STORE_SIZE(capacity) - 1, reading, capacity));
+    same("capacity before length", 1, oracle_open(store, 0, reading, 0));
     unchanged("a refused opening changed the store");
-    same("opening", 0, oracle_open(store, store_length, capacity));
+    same("opening", 0, oracle_open(store, store_length, reading, capacity));
 }

@@ -10,8 +10,8 @@ enum { MODEL_MOST = 1024 };
 
 extern unsigned long model_calls, model_facts;
 
-/* Refused openings, then an accepted one, in a store of so many bytes more than it needs. */
-void model_open(size_t capacity, size_t extra);
+/* Refused openings, then an accepted one for a record that is read so, in a store of so many bytes more than it needs. */
+void model_open(unsigned reading, size_t capacity, size_t extra);
 /* An addition at an end; with undo it is taken back at once, and every byte of the store must be as before. */
 void model_add(int left, uint64_t letter, int undo);
 void model_remove(int left);

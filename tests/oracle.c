@@ -10,7 +10,6 @@ enum { LENT = 100 * 1024, TEXT_SLOT = 0, OUT_SLOT, SCRATCH_SLOT };
 
 unsigned long oracle_calls;
 
-static unsigned char plain[256];
 static shown was, is;
 static const char *verdict;
 static uint8_t before[LENT];
@@ -23,12 +22,10 @@ const char *oracle_verdict(void)
     return verdict;
 }
 
-static const call opening = {CALL_KINDS, 0, NULL, 0, 0, 0};
-
 static void fail(const call *c, const char *what, uint64_t wanted, uint64_t got, size_t length)
 {
-    printf("%s %llu, store of %zu bytes (%s): %s: wanted %llx, got %llx\nstore before:", c == &opening ? "open" : library_names[call_number(c->kind)], (unsigned long long)c->number,
-           length, verdict ? verdict : "good", what, (unsigned long long)wanted, (unsigned long long)got);
+    printf("%s %llu, store of %zu bytes (%s): %s: wanted %llx, got %llx\nstore before:", library_names[c->kind], (unsigned long long)c->number, length,
+           verdict ? verdict : "good", what, (unsigned long long)wanted, (unsigned long long)got);
     for (size_t i = 0; i < length && i < 2000; i++) printf(" %02x", before[i]);
     printf("\n");
     abort();
@@ -44,6 +41,9 @@ static int letter(uint64_t c)
     return c == 'A' || c == 'C' || c == 'G' || c == 'T';
 }
 
+/* Where an end has no repeat its longest is the empty word, which stands everywhere: it is never new, never goes, and does
+ * not stand once only. */
+
 /* the answer of a removal, and of an addition but for the number of its new row */
 static uint64_t change_answer(const call *c)
 {
@@ -55,11 +55,11 @@ static uint64_t change_answer(const call *c)
         if (n == was.capacity) return 5;
         memcpy(w + left, was.letters, n);
         w[left ? 0 : n] = (unsigned char)c->number;
-        size_t m = left ? brute_left(plain, w, n + 1) : brute_right(plain, w, n + 1);
+        size_t m = left ? brute_left(was.rule, w, n + 1) : brute_right(was.rule, w, n + 1);
         return packed(brute_places(left ? w : w + n + 1 - m, m, was.letters, n, &first) == 0, 0, 0, 0);
     }
     if (n == 0) return 6;
-    size_t m = left ? brute_left(plain, was.letters, n) : brute_right(plain, was.letters, n);
+    size_t m = left ? brute_left(was.rule, was.letters, n) : brute_right(was.rule, was.letters, n);
     const unsigned char *longest = left ? was.letters : was.letters + n - m;
     unsigned gone = brute_places(longest, m, was.letters + left, n - 1, &first) == 0;
     return packed(gone, gone ? judge_row(&was, longest, m) : 0, was.letters[left ? 0 : n - 1], 0);
@@ -68,7 +68,7 @@ static uint64_t change_answer(const call *c)
 static uint64_t end_answer(int left)
 {
     if (was.size == 0) return 6;
-    size_t m = left ? brute_left(plain, was.letters, was.size) : brute_right(plain, was.letters, was.size), first;
+    size_t m = left ? brute_left(was.rule, was.letters, was.size) : brute_right(was.rule, was.letters, was.size), first;
     const unsigned char *w = left ? was.letters : was.letters + was.size - m;
     return packed(brute_places(w, m, was.letters, was.size, &first) == 1, judge_row(&was, w, m), 0, 0);
 }
@@ -78,14 +78,14 @@ static uint64_t row_answer(const call *c)
     if (c->number > was.capacity + 1 || !was.used[c->number]) return 7;
     if (c->number < 2) return c->kind == SPELL ? 0 : packed(0, 0, c->number == 0 ? 65535 : 0, 0);
     stretch at = was.rows[c->number];
-    size_t n = at.end - at.start, link = brute_link(plain, was.letters + at.start, n);
+    size_t n = at.end - at.start, link = brute_link(was.rule, was.letters + at.start, n);
     if (c->kind == SPELL) {
         if (c->out_length < n) return 9;
         memcpy(wanted_out, was.letters + at.start, n);
         return packed(0, 0, n, 0);
     }
-    unsigned inner = n == 1 ? 0 : n == 2 ? 1 : judge_row(&was, was.letters + at.start + 1, n - 2);
-    return packed(0, link ? judge_row(&was, was.letters + at.end - link, link) : 1, n, inner);
+    unsigned inner = n == 1 ? 0 : judge_row(&was, was.letters + at.start + 1, n - 2);
+    return packed(0, judge_row(&was, was.letters + at.end - link, link), n, inner);
 }
 
 static uint64_t find_answer(const call *c)
@@ -105,7 +105,7 @@ static uint64_t list_answer(const call *c)
         unsigned char x = c->text[i];
         if (!(x == '_' || (x >= '0' && x <= '9') || (x >= 'A' && x <= 'Z') || (x >= 'a' && x <= 'z'))) return 10;
     }
-    size_t n = brute_list(plain, was.letters, was.size, list), size = 0;
+    size_t n = brute_list(was.rule, was.letters, was.size, list), size = 0;
     for (size_t i = 0; i < n; i++)
         size += (size_t)sprintf(wanted_out + size, "%.*s\t%zu\t%zu\n", (int)c->text_length, (const char *)c->text, list[i].start, list[i].end);
     if (c->out_length < size || c->scratch_length < 4 * was.size) return 9;
@@ -119,7 +119,7 @@ static uint64_t wanted_answer(const call *c)
     case LENGTH: return packed(0, 0, was.size, 0);
     case COUNT: return packed(0, 0, was.count, 0);
     case LONGEST: {
-        stretch at = brute_longest(plain, was.letters, was.size);
+        stretch at = brute_longest(was.rule, was.letters, was.size);
         return was.size ? packed(0, 0, at.end - at.start, at.start) : 6;
     }
     case LONGEST_LEFT: return end_answer(1);
@@ -171,6 +171,7 @@ static void check_change(const uint8_t *store, size_t length, const call *c, uin
     const char *wrong = judge(store, length, &is);
     unsigned row = answer >> 16 & 0xffff;
     if (wrong) fail(c, wrong, 0, 1, length);
+    if (is.reading != was.reading) fail(c, "the reading", was.reading, is.reading, length);
     if (is.capacity != was.capacity || longer->size != shorter->size + 1) fail(c, "how many letters", was.size, is.size, length);
     if (memcmp(longer->letters + left, shorter->letters, shorter->size) != 0) fail(c, "the letters that stay", 0, 1, length);
     if (adds && is.letters[left ? 0 : was.size] != c->number) fail(c, "the letter added", c->number, 0, length);
@@ -194,34 +195,35 @@ static void lend(const call *c)
 }
 
 /* an opened store: good, empty, the cells that are not used cleared, the bytes beyond as they were */
-static void check_opened(const uint8_t *store, size_t length, uint64_t capacity)
+static void check_opened(const uint8_t *store, size_t length, const call *c)
 {
     const char *wrong = judge(store, length, &is);
-    size_t used = layout_used(capacity);
-    if (wrong) fail(&opening, wrong, 0, 1, length);
-    if (is.capacity != capacity || is.size != 0) fail(&opening, "capacity and letters", capacity, is.capacity, length);
+    size_t capacity = (size_t)c->number, used = layout_used(capacity);
+    if (wrong) fail(c, wrong, 0, 1, length);
+    if (is.capacity != capacity || is.size != 0) fail(c, "capacity and letters", capacity, is.capacity, length);
+    if (OPEN + is.reading != c->kind) fail(c, "the reading", c->kind - OPEN, is.reading, length);
     for (size_t r = 1; r < capacity + 2; r++)
         for (size_t f = CELL_UNUSED; f < ROW_CELLS; f++)
-            if (layout_cell(store, r, f) != 0) fail(&opening, "a cell that is not used", r, f, length);
-    if (memcmp(before + used, store + used, length - used) != 0) fail(&opening, "bytes beyond those used", 0, 1, length);
+            if (layout_cell(store, r, f) != 0) fail(c, "a cell that is not used", r, f, length);
+    if (memcmp(before + used, store + used, length - used) != 0) fail(c, "bytes beyond those used", 0, 1, length);
 }
 
-uint64_t oracle_open(uint8_t *store, size_t length, uint64_t capacity)
+uint64_t oracle_open(uint8_t *store, size_t length, unsigned reading, uint64_t capacity)
 {
     uint64_t wanted = capacity < 1 || capacity > LAYOUT_MOST ? 1 : length < layout_size(capacity) ? 2 : 0;
+    call c = {OPEN + reading, capacity, NULL, 0, 0, 0};
     memcpy(before, store, length);
-    uint64_t got = mirror_open(store, length, capacity);
+    uint64_t got = call_make(&linked, store, length, &c, &lent);
     oracle_calls++;
     verdict = NULL;
-    if (wanted != got) fail(&opening, "answer", wanted, got, length);
-    if (got != 0 && memcmp(store, before, length) != 0) fail(&opening, "the store changed", 0, 1, length);
-    if (got == 0) check_opened(store, length, capacity);
+    if (wanted != got) fail(&c, "answer", wanted, got, length);
+    if (got != 0 && memcmp(store, before, length) != 0) fail(&c, "the store changed", 0, 1, length);
+    if (got == 0) check_opened(store, length, &c);
     return got;
 }
 
 uint64_t oracle(uint8_t *store, size_t length, const call *c)
 {
-    brute_plain(plain);
     verdict = judge(store, length, &was);
     memcpy(before, store, length);
     lend(c);

@@ -9,8 +9,8 @@ extern unsigned long oracle_calls;
 
 /* Makes the call on the store, where every byte of it is checked afterwards, and returns its answer. */
 uint64_t oracle(uint8_t *store, size_t length, const call *c);
-/* Opens the store, with the same checks. */
-uint64_t oracle_open(uint8_t *store, size_t length, uint64_t capacity);
+/* Opens the store for a record that is read so, with the same checks. */
+uint64_t oracle_open(uint8_t *store, size_t length, unsigned reading, uint64_t capacity);
 /* Why the last store was not good, NULL where it was. */
 const char *oracle_verdict(void);
 #endif

@@ -11,7 +11,7 @@
 
 enum { MOST = 64, CELLS = 8, LINE = 4096 };
 
-static unsigned char plain[256];
+static const unsigned char *rule; /* of the record that was opened last */
 static const char *file = "samples";
 static char letters[MOST + 1];
 static int line_number, sittings, calls, judged, tables;
@@ -38,8 +38,10 @@ static void follow(const char *call, const char *answer)
     size_t n = strlen(letters);
     int left = strstr(call, "left") != NULL;
     if (strncmp(answer, "refused", 7) == 0) return;
-    if (strncmp(call, "open ", 5) == 0) letters[0] = 0;
-    else if (strncmp(call, "add ", 4) == 0) {
+    if (strncmp(call, "open", 4) == 0) {
+        rule = brute_rule(strncmp(call, "open-inverted ", 14) == 0 ? INVERTED : PLAIN);
+        letters[0] = 0;
+    } else if (strncmp(call, "add ", 4) == 0) {
         if (n == MOST) fail("letters", "too many", "");
         memmove(letters + left, letters, n + 1);
         letters[left ? 0 : n] = call[4];
@@ -50,17 +52,20 @@ static void follow(const char *call, const char *answer)
     }
 }
 
-/* what every stretch answers to a question about the letters alone; 0 where the call is another */
+/* what every stretch answers to a question about the letters alone, or about an end that has no repeat; 0 where the call is
+ * another */
 static int answer_of(const char *call, char *said)
 {
     const unsigned char *s = (const unsigned char *)letters;
     size_t n = strlen(letters);
-    stretch all[MOST], longest = brute_longest(plain, s, n);
-    size_t count = brute_list(plain, s, n, all);
+    stretch all[MOST], longest = brute_longest(rule, s, n);
+    size_t count = brute_list(rule, s, n, all);
     *said = 0;
     if (strcmp(call, "length") == 0) sprintf(said, "%zu", n);
     else if (strcmp(call, "count") == 0) sprintf(said, "%zu", count);
     else if (strcmp(call, "longest") == 0) sprintf(said, "length %zu at %zu", longest.end - longest.start, longest.start);
+    else if (strcmp(call, "longest left") == 0 && brute_left(rule, s, n) == 0) strcpy(said, "row 1, not once only");
+    else if (strcmp(call, "longest right") == 0 && brute_right(rule, s, n) == 0) strcpy(said, "row 1, not once only");
     else if (strncmp(call, "letter ", 7) == 0) sprintf(said, "%.1s", letters + strtoul(call + 7, NULL, 10));
     else if (strncmp(call, "list ", 5) == 0 && count == 0) strcpy(said, "nothing");
     else if (strncmp(call, "list ", 5) == 0)
@@ -112,11 +117,11 @@ static unsigned row_of(const char *word, size_t n)
 static void check_table(void)
 {
     stretch all[MOST];
-    size_t n = brute_list(plain, (unsigned char *)letters, strlen(letters), all);
+    size_t n = brute_list(rule, (unsigned char *)letters, strlen(letters), all);
     if (n != row_count) fail("how many rows", "another number", letters);
     for (size_t i = 0; i < n; i++) {
         const char *w = letters + all[i].start;
-        size_t m = all[i].end - all[i].start, link = brute_link(plain, (const unsigned char *)w, m);
+        size_t m = all[i].end - all[i].start, link = brute_link(rule, (const unsigned char *)w, m);
         unsigned row = row_of(w, m), link_row = link ? row_of(w + m - link, link) : 1, inner = m == 1 ? 0 : m == 2 ? 1 : row_of(w + 1, m - 2);
         size_t k = place_of(w, m);
         if (row < 2 || rows[k].length != m || rows[k].link != link_row || rows[k].inner != inner) fail("a row's fields", rows[k].word, "others by every stretch");
@@ -169,6 +174,7 @@ static void one_key(const char *name)
     int calls_before = calls, tables_before = tables;
     FILE *key = fopen(file = name, "r");
     if (key == NULL) fail("the file", "there", "not there");
+    rule = brute_rule(PLAIN);
     letters[0] = 0;
     for (line_number = 1; fgets(line, sizeof line, key); line_number++) one_line(line);
     one_line((char[]){""});
@@ -178,7 +184,6 @@ static void one_key(const char *name)
 
 int main(int argc, char **argv)
 {
-    brute_plain(plain);
     for (int i = 1; i < argc; i++) one_key(argv[i]);
     if (sittings < 12) fail("sittings", "a dozen", "fewer");
     printf("%d sittings, %d calls, %d of them judged by every stretch, and %d tables of rows in %d keys\n", sittings, calls, judged, tables, argc - 1);

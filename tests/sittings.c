@@ -1,7 +1,8 @@
 /* Long sittings through the C boundary: every call, every answer, every lent byte, at small and large capacities, first
  * with buffers that end at a guard page and then with buffers that begin right after one. Random sittings, then
- * structured records that grow at one end or at both, up to full length, and shrink again.
- * Usage: sittings [seed [sittings]] */
+ * structured records that grow at one end or at both, up to full length, and shrink again; all of it on plain records and on
+ * inverted ones. Usage: sittings [seed [sittings]] */
+#include "brute.h"
 #include "guard.h"
 #include "model.h"
 #include "random.h"
@@ -9,58 +10,67 @@
 #include <stdlib.h>
 #include <string.h>
 
-enum { ALL_A, AC, FIBONACCI, THUE_MORSE, RANDOM, WORDS };
+enum { ALL_A, AT, FIBONACCI, THUE_MORSE, RANDOM, WORDS };
 
-/* letter i of a structured word */
-static unsigned letter_of(int word, unsigned i)
+/* the Fibonacci word over A and T or, for an inverted record, over AT and CG: each has as many repeats as it can */
+static const char *fibonacci(unsigned reading)
 {
-    static char fibonacci[2 * MODEL_MOST + 2];
-    size_t last = 1, now = 2;
+    static char words[READINGS][2 * MODEL_MOST];
+    char *word = words[reading];
+    size_t last = reading == PLAIN ? 1 : 2, now = 2 * last;
+    if (word[0]) return word;
+    memcpy(word, reading == PLAIN ? "AT" : "ATCG", now);
+    while (now <= MODEL_MOST) {
+        size_t next = now + last;
+        memcpy(word + now, word, last);
+        last = now;
+        now = next;
+    }
+    return word;
+}
+
+/* letter i of a structured word; all but the first have repeats in either reading */
+static unsigned letter_of(unsigned reading, int word, unsigned i)
+{
     switch (word) {
     case ALL_A: return 'A';
-    case AC: return (unsigned char)"AC"[i % 2];
+    case AT: return (unsigned char)"AT"[i % 2];
     case THUE_MORSE: return (unsigned char)"CG"[__builtin_popcount(i) % 2];
     case RANDOM: return (unsigned char)"ACGT"[random_below(4)];
-    default:
-        if (fibonacci[0]) return (unsigned char)fibonacci[i];
-        memcpy(fibonacci, "AT", 2);
-        while (now <= MODEL_MOST) {
-            size_t next = now + last;
-            memcpy(fibonacci + now, fibonacci, next - now);
-            last = now;
-            now = next;
-        }
-        return (unsigned char)fibonacci[i];
+    default: return (unsigned char)fibonacci(reading)[i];
     }
 }
 
 /* numbers that are no letters; some would be one if they were narrowed to a byte */
 static const uint64_t no_letters[] = {'N', 'U', 'a', 'c', 'g', 't', 0, 255, 'A' + 256, 'T' + 65536, 'C' + (1ull << 32), 'G' + (1ull << 63)};
 
-static void random_sitting(size_t capacity, unsigned turns, unsigned alphabet, unsigned removing)
+/* the letters are the first ones of ATCG, so that two of them are partners, and some join as a pair around the whole record */
+static void random_sitting(unsigned reading, size_t capacity, unsigned turns, unsigned alphabet, unsigned removing)
 {
-    model_open(capacity, random_below(3) * 11);
+    model_open(reading, capacity, random_below(3) * 11);
     model_ask();
     for (unsigned i = 0; i < turns; i++) {
         unsigned what = random_below(100);
         int left = (int)random_below(2);
+        unsigned char letter = (unsigned char)"ATCG"[random_below(alphabet)];
         if (what < 4) model_add(left, no_letters[random_below(sizeof no_letters / sizeof no_letters[0])], 0);
-        else if (what < 10) model_add(left, (unsigned char)"ACGT"[random_below(alphabet)], 1);
+        else if (what < 10) model_add(left, letter, 1);
         else if (what < 10 + removing) model_remove(left);
-        else model_add(left, (unsigned char)"ACGT"[random_below(alphabet)], 0);
+        else model_add(left, letter, 0);
+        if (what > 90) model_add(!left, brute_rule(reading)[letter], 0);
         if (model_length() <= 48 || i % 64 == 63) model_ask();
     }
     model_ask();
 }
 
 /* a word added until the record is full, at the right (0), at the left (1) or at both in turn (2), then taken away */
-static void structured_sitting(int word, size_t capacity, unsigned ends)
+static void structured_sitting(unsigned reading, int word, size_t capacity, unsigned ends)
 {
-    model_open(capacity, 5);
+    model_open(reading, capacity, 5);
     for (unsigned i = 0; i < capacity + 2; i++) {
         int left = ends == 1 || (ends == 2 && i % 3 == 0);
-        model_add(left, letter_of(word, i), i % 16 == 0);
-        if (i % 16 == 0) model_add(left, letter_of(word, i), 0);
+        model_add(left, letter_of(reading, word, i), i % 16 == 0);
+        if (i % 16 == 0) model_add(left, letter_of(reading, word, i), 0);
         if (capacity < 40 || i == capacity / 2) model_ask();
     }
     model_ask();
@@ -72,22 +82,22 @@ static void structured_sitting(int word, size_t capacity, unsigned ends)
     model_ask();
 }
 
-static void run(int sittings)
+static void run(unsigned reading, int sittings)
 {
     static const size_t capacities[] = {1, 2, 3, 4, 7, 16, 33};
     for (int i = 0; i < sittings; i++) {
         size_t capacity = i % 4 == 0 ? 1 + random_below(3) : i % 4 == 1 ? 4 + random_below(12) : i % 4 == 2 ? 8 + random_below(60) : 200 + random_below(825);
-        random_sitting(capacity, 60 + random_below(capacity < 100 ? 300 : 60), 1 + random_below(4), 10 + random_below(50));
+        random_sitting(reading, capacity, 60 + random_below(capacity < 100 ? 300 : 60), 1 + random_below(4), 10 + random_below(50));
     }
     for (int word = 0; word < WORDS; word++)
         for (size_t k = 0; k < sizeof capacities / sizeof capacities[0]; k++)
-            for (unsigned ends = 0; ends < 3; ends++) structured_sitting(word, capacities[k], ends);
+            for (unsigned ends = 0; ends < 3; ends++) structured_sitting(reading, word, capacities[k], ends);
 }
 
 /* full length: every other word, at the ends that its turn brings */
-static void run_full(int turn)
+static void run_full(unsigned reading, int turn)
 {
-    for (int word = turn; word < WORDS; word += 2) structured_sitting(word, MODEL_MOST, (unsigned)(word + turn) % 3);
+    for (int word = turn; word < WORDS; word += 2) structured_sitting(reading, word, MODEL_MOST, (unsigned)(word + turn) % 3);
 }
 
 int main(int argc, char **argv)
@@ -96,9 +106,11 @@ int main(int argc, char **argv)
     random_seed(argc > 1 ? argv[1] : NULL, 20251115);
     for (int place = GUARD_AFTER; place <= GUARD_BEFORE; place++) {
         guard_at((guard_place)place);
-        run(sittings);
-        run_full(place);
+        for (unsigned reading = PLAIN; reading < READINGS; reading++) {
+            run(reading, sittings);
+            run_full(reading, place);
+        }
     }
-    printf("%d sittings, %lu changes, %lu facts\n", 2 * sittings + WORDS * (2 * 21 + 1), model_calls, model_facts);
+    printf("%d sittings, %lu changes, %lu facts\n", READINGS * (2 * sittings + WORDS * (2 * 21 + 1)), model_calls, model_facts);
     return 0;
 }

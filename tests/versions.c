@@ -6,7 +6,8 @@
  *
  * CALL leaves a call out, CALL.flag, .row, .first or .second that field of its answer; `store` leaves out the stores'
  * bytes, for versions that lay a store out differently: then no store is damaged either; `small` gives the second version
- * capitals where a later line of a FASTA text has small letters, which the first versions refused. */
+ * capitals where a later line of a FASTA text has small letters, which the first versions refused. Without open_inverted,
+ * named or not in both, every record is plain. */
 #include "calls.h"
 #include "damages.h"
 #include "fasta_texts.h"
@@ -16,7 +17,7 @@
 #include <stdlib.h>
 #include <string.h>
 
-enum { MOST = 1024, EXTRA = 40, PIECE = MOST + 8, FASTA_MOST = 8192, FASTA = LIBRARY_CALLS - 1, OPEN = 0 };
+enum { MOST = 1024, EXTRA = 40, PIECE = MOST + 8, FASTA_MOST = 8192, FASTA = LIBRARY_CALLS - 1 };
 enum { TEXT_SLOT, OUT_SLOT, SCRATCH_SLOT = OUT_SLOT + 2, STORE_SLOT = SCRATCH_SLOT + 2 };
 enum { SMALL = 24 }; /* up to so many letters the judge, which damage asks, is fast */
 
@@ -24,6 +25,7 @@ static library both[2];
 static uint8_t *stores[2], *outs[2], *scratches[2], *text;
 static size_t whole, length, capacity, size; /* damage may cut the length that is lent of the whole store */
 static unsigned char letters[MOST + 1];
+static const unsigned char *rule; /* of the record that stands */
 static uint64_t left_out[LIBRARY_CALLS]; /* bits of each call's answer that are not compared; all: it is not made */
 static int stores_apart, without_small;
 static unsigned long compared[LIBRARY_CALLS], refused, damaged_calls, total;
@@ -66,7 +68,7 @@ static void lend(uint8_t **to, int slot, size_t n, uint8_t filling)
 
 static uint64_t make(const call *c)
 {
-    unsigned which = call_number(c->kind);
+    unsigned which = c->kind;
     uint64_t answers[2];
     if (left_out[which] == UINT64_MAX) return 0xff;
     text = guarded(TEXT_SLOT, c->text, c->text_length);
@@ -100,10 +102,13 @@ static void follow(const call *c, uint64_t answer)
 
 /* ---- arguments */
 
-static uint64_t some_letter(unsigned alphabet)
+/* one of the first letters of ATCG, so that two are partners; the partner of the letter at the other end; or none */
+static uint64_t some_letter(int left, unsigned alphabet)
 {
     static const uint64_t none[] = {'N', 'U', 'a', 0, 255, 'A' + 256, 'C' + (1ull << 32), 'G' + (1ull << 63)};
-    return random_below(30) ? (uint64_t)"ACGT"[random_below(alphabet)] : none[random_below(sizeof none / sizeof none[0])];
+    unsigned kind = random_below(30);
+    if (kind == 0) return none[random_below(sizeof none / sizeof none[0])];
+    return kind < 8 && size > 0 ? rule[letters[left ? size - 1 : 0]] : (unsigned char)"ATCG"[random_below(alphabet)];
 }
 
 static uint64_t some_number(size_t about)
@@ -112,11 +117,11 @@ static uint64_t some_number(size_t about)
     return kind == 0 ? (1ull << 32) + random_below(4) : kind == 1 ? UINT64_MAX - random_below(3) : random_below((unsigned)about + 3);
 }
 
-/* the stretch around a centre as far as it mirrors, a bit more or less, or any letters; its length */
+/* the stretch around a centre as far as it is a repeat, a bit more or less, or any letters; its length */
 static size_t some_piece(unsigned char *piece)
 {
     size_t from = random_below((unsigned)size + 1), to = from + random_below(2), n;
-    while (from > 0 && to < size && letters[from - 1] == letters[to]) from--, to++;
+    while (from > 0 && to < size && letters[from - 1] == rule[letters[to]]) from--, to++;
     if (to > size) to = size;
     if (random_below(3) == 0 && to - from >= 2) from++, to--;
     n = to > from ? to - from : 0;
@@ -143,7 +148,7 @@ static call some_call(call_kind kind, unsigned alphabet)
     static unsigned char bytes[PIECE];
     call c = {kind, 0, bytes, 0, 0, 0};
     memset(bytes, 0, sizeof bytes);
-    if (kind <= ADD_RIGHT) c.number = some_letter(alphabet);
+    if (kind <= ADD_RIGHT) c.number = some_letter(kind == ADD_LEFT, alphabet);
     if (kind == LETTER) c.number = some_number(size);
     if (kind == ROW || kind == SPELL) c.number = some_number(capacity);
     if (kind == SPELL) c.out_length = random_below((unsigned)size + 3);
@@ -178,15 +183,19 @@ static void fill(size_t n)
 }
 
 /* 1 where the record is open */
-static int open_both(uint64_t wanted)
+static int open_both(unsigned reading, uint64_t wanted)
 {
-    uint64_t answers[2];
-    for (int i = 0; i < 2; i++) answers[i] = both[i].open(stores[i], length, wanted);
-    if (!stores_apart) same_bytes(OPEN, "the store", stores, whole);
-    if (same_answer(OPEN, answers) != 0) return 0;
+    call c = {OPEN + reading, wanted, NULL, 0, 0, 0};
+    if (make(&c) != 0) return 0;
+    rule = brute_rule(reading);
     capacity = wanted;
     size = 0;
     return 1;
+}
+
+static int without_inverted(void)
+{
+    return left_out[OPEN_INVERTED] == UINT64_MAX;
 }
 
 static unsigned long budget;
@@ -195,13 +204,14 @@ static unsigned long budget;
  * the other, and between them every question */
 static void sitting(size_t wanted, unsigned alphabet)
 {
+    unsigned reading = without_inverted() ? PLAIN : random_below(READINGS);
     fill(MIRROR_STORE_SIZE(wanted) + random_below(EXTRA));
-    open_both(random_below(2) ? 0 : MOST + 1 + random_below(3));
-    open_both(wanted + length / 48);
+    open_both(reading, random_below(2) ? 0 : MOST + 1 + random_below(3));
+    open_both(reading, wanted + length / 48);
     length = MIRROR_STORE_SIZE(wanted) - 1;
-    open_both(wanted);
+    open_both(reading, wanted);
     length = whole;
-    if (!open_both(wanted)) return;
+    if (!open_both(reading, wanted)) return;
     unsigned turns = 20 + random_below(6 * (unsigned)wanted + 40), phase = 1 + random_below(2 * (unsigned)wanted + 8);
     for (unsigned i = 0; i < turns && total < budget; i++) {
         int growing = i / phase % 2 == 0 ? random_below(8) != 0 : random_below(8) == 0;
@@ -227,7 +237,8 @@ static void spoil_bytes(void)
     if (random_below(16) == 0) length -= 1 + random_below(EXTRA + 2);
 }
 
-/* The store of the sitting is damaged, in a way of damages.c while it is small, and gets every call. */
+/* The store of the sitting is damaged, in a way of damages.c while it is small, and gets every call. Where no inverted record
+ * is opened one of the two may not know that reading, so a cell that came to name it is made to name none. */
 static void spoil(unsigned alphabet)
 {
     static uint8_t kept[MIRROR_STORE_SIZE(MOST) + EXTRA], bad[MIRROR_STORE_SIZE(MOST) + EXTRA];
@@ -236,8 +247,9 @@ static void spoil(unsigned alphabet)
     memcpy(kept, stores[0], whole);
     if (size > SMALL || random_below(3) == 0 || judge(stores[0], length, &s) != NULL) spoil_bytes();
     else damages[random_below((unsigned)damage_kinds)].make(stores[0], &length, &s);
+    if (without_inverted() && layout_cell(stores[0], 0, CELL_READING) == INVERTED) layout_put(stores[0], 0, CELL_READING, READINGS);
     memcpy(bad, stores[0], whole);
-    for (call_kind kind = 0; kind < CALL_KINDS; kind++) {
+    for (call_kind kind = ADD_LEFT; kind < CALL_KINDS; kind++) {
         for (int i = 0; i < 2; i++) memcpy(stores[i], bad, whole);
         call c = some_call(kind, alphabet);
         tighten(&c, make(&c));

@@ -1,0 +1,230 @@
+/* Restriction sites, as the catalogues of enzymes have them: what the inverted reading is for. A site that reads alike on both
+ * strands is a repeat of every inverted record that holds it, and is found there; any other is absent, though it stands. The
+ * records are a site between random letters, put together at the right or at both ends and taken apart again, and each site
+ * alone. Whether letters read alike is tried here in a few lines, and no other test's program is asked. A wrong answer is told
+ * on standard error, and the program ends with 1. */
+#include "mirror.h"
+#include "random.h"
+#include <stdio.h>
+#include <stdlib.h>
+#include <string.h>
+
+typedef struct {
+    const char *enzyme, *site;
+} entry;
+
+/* sites that equal their own reverse complement: four letters, six, eight; some have several enzymes */
+static const entry even[] = {
+    {"AluI", "AGCT"}, {"BfaI", "CTAG"}, {"BstUI", "CGCG"}, {"CviAII", "CATG"}, {"CviQI", "GTAC"}, {"DpnI", "GATC"},
+    {"DpnII", "GATC"}, {"FatI", "CATG"}, {"HaeIII", "GGCC"}, {"HhaI", "GCGC"}, {"HinP1I", "GCGC"}, {"HpaII", "CCGG"},
+    {"HpyCH4IV", "ACGT"}, {"HpyCH4V", "TGCA"}, {"MboI", "GATC"}, {"MluCI", "AATT"}, {"MseI", "TTAA"}, {"MspI", "CCGG"},
+    {"NlaIII", "CATG"}, {"RsaI", "GTAC"}, {"Sau3AI", "GATC"}, {"TaqI", "TCGA"},
+    {"AatII", "GACGTC"}, {"Acc65I", "GGTACC"}, {"AclI", "AACGTT"}, {"AfeI", "AGCGCT"}, {"AflII", "CTTAAG"},
+    {"AgeI", "ACCGGT"}, {"ApaI", "GGGCCC"}, {"ApaLI", "GTGCAC"}, {"AseI", "ATTAAT"}, {"AvrII", "CCTAGG"},
+    {"BamHI", "GGATCC"}, {"BclI", "TGATCA"}, {"BglII", "AGATCT"}, {"BsiWI", "CGTACG"}, {"BspDI", "ATCGAT"},
+    {"BspEI", "TCCGGA"}, {"BspHI", "TCATGA"}, {"BsrGI", "TGTACA"}, {"BssHII", "GCGCGC"}, {"BstBI", "TTCGAA"},
+    {"ClaI", "ATCGAT"}, {"DraI", "TTTAAA"}, {"EagI", "CGGCCG"}, {"EcoRI", "GAATTC"}, {"EcoRV", "GATATC"},
+    {"FspI", "TGCGCA"}, {"HindIII", "AAGCTT"}, {"HpaI", "GTTAAC"}, {"KasI", "GGCGCC"}, {"KpnI", "GGTACC"},
+    {"MfeI", "CAATTG"}, {"MluI", "ACGCGT"}, {"MscI", "TGGCCA"}, {"NaeI", "GCCGGC"}, {"NarI", "GGCGCC"},
+    {"NcoI", "CCATGG"}, {"NdeI", "CATATG"}, {"NgoMIV", "GCCGGC"}, {"NheI", "GCTAGC"}, {"NruI", "TCGCGA"},
+    {"NsiI", "ATGCAT"}, {"PciI", "ACATGT"}, {"PmlI", "CACGTG"}, {"PsiI", "TTATAA"}, {"PspOMI", "GGGCCC"},
+    {"PstI", "CTGCAG"}, {"PvuI", "CGATCG"}, {"PvuII", "CAGCTG"}, {"SacI", "GAGCTC"}, {"SacII", "CCGCGG"},
+    {"SalI", "GTCGAC"}, {"ScaI", "AGTACT"}, {"SmaI", "CCCGGG"}, {"SnaBI", "TACGTA"}, {"SpeI", "ACTAGT"},
+    {"SphI", "GCATGC"}, {"SspI", "AATATT"}, {"StuI", "AGGCCT"}, {"XbaI", "TCTAGA"}, {"XhoI", "CTCGAG"}, {"XmaI", "CCCGGG"},
+    {"AscI", "GGCGCGCC"}, {"AsiSI", "GCGATCGC"}, {"FseI", "GGCCGGCC"}, {"MauBI", "CGCGCGCG"}, {"MreI", "CGCCGGCG"},
+    {"NotI", "GCGGCCGC"}, {"PacI", "TTAATTAA"}, {"PmeI", "GTTTAAAC"}, {"SbfI", "CCTGCAGG"}, {"SrfI", "GCCCGGGC"},
+    {"SwaI", "ATTTAAAT"},
+};
+
+/* sites that do not */
+static const entry uneven[] = {
+    {"AarI", "CACCTGC"}, {"AciI", "CCGC"}, {"AcuI", "CTGAAG"}, {"AlwI", "GGATC"}, {"BbsI", "GAAGAC"}, {"BbvCI", "CCTCAGC"},
+    {"BbvI", "GCAGC"}, {"BccI", "CCATC"}, {"BciVI", "GTATCC"}, {"BmrI", "ACTGGG"}, {"BpmI", "CTGGAG"}, {"BsaI", "GGTCTC"},
+    {"BseRI", "GAGGAG"}, {"BsgI", "GTGCAG"}, {"BsmAI", "GTCTC"}, {"BsmBI", "CGTCTC"}, {"BsmFI", "GGGAC"}, {"BsmI", "GAATGC"},
+    {"BspMI", "ACCTGC"}, {"BspQI", "GCTCTTC"}, {"BsrBI", "CCGCTC"}, {"BsrDI", "GCAATG"}, {"BsrI", "ACTGG"},
+    {"BssSI", "CACGAG"}, {"BtgZI", "GCGATG"}, {"BtsCI", "GGATG"}, {"BtsI", "GCAGTG"}, {"EarI", "CTCTTC"}, {"EciI", "GGCGGA"},
+    {"BtsIMutI", "CAGTG"}, {"Esp3I", "CGTCTC"}, {"FokI", "GGATG"}, {"HgaI", "GACGC"}, {"HphI", "GGTGA"}, {"HpyAV", "CCTTC"},
+    {"MboII", "GAAGA"}, {"MlyI", "GAGTC"}, {"MnlI", "CCTC"}, {"PleI", "GAGTC"}, {"SapI", "GCTCTTC"}, {"SfaNI", "GCATC"},
+};
+
+enum { EVEN = sizeof even / sizeof even[0], UNEVEN = sizeof uneven / sizeof uneven[0], DRAWS = 6, FLANK = 60, MOST = 2 * FLANK + 16 };
+
+static uint8_t store[MIRROR_STORE_SIZE(2 * MOST)];
+static size_t length;
+static char letters[MOST + 1]; /* what the record must hold */
+static const entry *at_hand;
+static unsigned long answers;
+
+static void key(const char *what, uint64_t wanted, uint64_t got)
+{
+    answers++;
+    if (wanted == got) return;
+    fprintf(stderr, "%s %s in %s: %s: wanted %llu, got %llu\n", at_hand->enzyme, at_hand->site, letters, what,
+            (unsigned long long)wanted, (unsigned long long)got);
+    exit(1);
+}
+
+static char partner(char c)
+{
+    return c == 'A' ? 'T' : c == 'T' ? 'A' : c == 'C' ? 'G' : 'C';
+}
+
+/* whether the stretch equals its reverse complement */
+static int reads_alike(const char *w, size_t n)
+{
+    for (size_t i = 0; i < n; i++)
+        if (w[i] != partner(w[n - 1 - i])) return 0;
+    return n > 0;
+}
+
+/* opens a record by the given call and puts in the letters: those from `from` on at the right, those before it at the left,
+ * in an order by chance */
+static void record(uint64_t (*open)(uint8_t *, size_t, uint64_t), size_t from)
+{
+    size_t n = strlen(letters), left = from, right = from, capacity = n + 1 + random_below(MOST);
+    length = MIRROR_STORE_SIZE(capacity);
+    memset(store, 0xee, sizeof store);
+    key("open", 0, open(store, length, capacity));
+    while (left > 0 || right < n) {
+        int at_left = right == n || (left > 0 && random_below(2));
+        uint64_t answer = at_left ? mirror_add_left(store, length, (unsigned char)letters[--left])
+                                  : mirror_add_right(store, length, (unsigned char)letters[right++]);
+        key("addition", 0, mirror_refusal(answer));
+    }
+    key("length", (uint64_t)n << 32, mirror_length(store, length));
+    for (size_t i = 0; i < n; i++) key("letter", (uint64_t)letters[i] << 32, mirror_letter(store, length, i));
+}
+
+static uint64_t find(const char *site, size_t n)
+{
+    return mirror_find(store, length, (const uint8_t *)site, n);
+}
+
+/* the piece is found, its row has its length and spells it */
+static void is_found(const char *piece, size_t n)
+{
+    uint8_t spelt[MOST];
+    uint64_t answer = find(piece, n), row = mirror_row_of(answer);
+    key("found", 1ull << 8 | row << 16, answer);
+    key("its length", n, mirror_first(mirror_row(store, length, row)));
+    key("bytes spelt", (uint64_t)n << 32, mirror_spell(store, length, row, spelt, n));
+    key("spelling", 0, memcmp(spelt, piece, n) != 0);
+}
+
+/* each site of the table is found where it stands and reads alike, and is absent otherwise */
+static void every_site(const entry *sites, size_t count, int found)
+{
+    for (size_t i = 0; i < count; i++) {
+        at_hand = &sites[i];
+        if (found && strstr(letters, sites[i].site)) is_found(sites[i].site, strlen(sites[i].site));
+        else key("absent", 0, find(sites[i].site, strlen(sites[i].site)));
+    }
+}
+
+/* takes so many letters away at the two ends, in an order by chance */
+static void take_apart(size_t before, size_t after)
+{
+    size_t first = 0, n = strlen(letters);
+    while (before + after > 0) {
+        int at_left = after == 0 || (before > 0 && random_below(2));
+        uint64_t answer = at_left ? mirror_remove_left(store, length) : mirror_remove_right(store, length);
+        key("removal", 0, mirror_refusal(answer));
+        key("letter removed", (uint64_t)letters[at_left ? first++ : --n], mirror_first(answer));
+        if (first == n) key("the last letter was no repeat", 0, mirror_flag(answer));
+        if (at_left) before--;
+        else after--;
+    }
+    letters[n] = 0;
+    memmove(letters, letters + first, n - first + 1);
+}
+
+/* one site between letters drawn by chance, put together at the right or around its middle; then those letters go, and at
+ * last its own */
+static void between_flanks(const entry *e, int at_both_ends)
+{
+    size_t m = strlen(e->site), before = random_below(FLANK), after = random_below(FLANK), n = before + m + after;
+    for (size_t i = 0; i < n; i++) letters[i] = "ACGT"[random_below(4)];
+    memcpy(letters + before, e->site, m);
+    letters[n] = 0;
+    at_hand = e;
+    record(mirror_open_inverted, at_both_ends ? before + m / 2 : 0);
+    every_site(even, EVEN, 1);
+    every_site(uneven, UNEVEN, 0);
+    at_hand = e;
+    take_apart(before, after);
+    every_site(even, EVEN, 1);
+    every_site(uneven, UNEVEN, 0);
+    at_hand = e;
+    take_apart(m / 2, m - m / 2);
+    key("repeats of no letters", 0, mirror_count(store, length));
+}
+
+/* the lines of the list, by trying every stretch: each that reads alike, where it first stands */
+static size_t lines_of(const entry *e, char *out)
+{
+    size_t n = strlen(letters), written = 0;
+    for (size_t end = 1; end <= n; end++)
+        for (size_t start = 0; start < end; start++) {
+            size_t earlier = 0;
+            while (strncmp(letters + earlier, letters + start, end - start) != 0) earlier++;
+            if (earlier == start && reads_alike(letters + start, end - start))
+                written += (size_t)sprintf(out + written, "%s\t%zu\t%zu\n", e->enzyme, start, end);
+        }
+    return written;
+}
+
+/* the site alone: all of its repeats are listed, and the site itself goes and comes with its last letter */
+static void alone(const entry *e, int found)
+{
+    char wanted[MIRROR_LIST_SIZE(MOST)], got[MIRROR_LIST_SIZE(MOST)];
+    uint8_t scratch[MIRROR_LIST_SCRATCH(MOST)];
+    size_t n = strlen(e->site);
+    strcpy(letters, e->site);
+    at_hand = e;
+    record(mirror_open_inverted, random_below((unsigned)n + 1));
+    size_t bytes = lines_of(e, wanted);
+    key("bytes listed", (uint64_t)bytes << 32,
+        mirror_list(store, length, (const uint8_t *)e->enzyme, strlen(e->enzyme), scratch, sizeof scratch, (uint8_t *)got, bytes));
+    key("list", 0, memcmp(wanted, got, bytes) != 0);
+    if (!found) {
+        key("absent", 0, find(e->site, n));
+        return;
+    }
+    uint64_t row = mirror_row_of(find(e->site, n));
+    is_found(e->site, n);
+    key("longest", (uint64_t)n << 32, mirror_longest(store, length));
+    key("goes", 1 << 8 | row << 16 | (uint64_t)e->site[n - 1] << 32, mirror_remove_right(store, length));
+    key("absent", 0, find(e->site, n));
+    key("comes", 1 << 8 | row << 16, mirror_add_right(store, length, (unsigned char)e->site[n - 1]));
+    is_found(e->site, n);
+}
+
+/* a plain record knows no site of the first table: no letter is its own partner */
+static void in_a_plain_record(const entry *e)
+{
+    strcpy(letters, e->site);
+    at_hand = e;
+    record(mirror_open, 0);
+    key("absent in a plain record", 0, find(e->site, strlen(e->site)));
+}
+
+/* every test on the sites of one table */
+static void table(const entry *sites, size_t count, int alike)
+{
+    for (size_t i = 0; i < count; i++) {
+        at_hand = &sites[i];
+        key("the table", (uint64_t)alike, (uint64_t)reads_alike(sites[i].site, strlen(sites[i].site)));
+        for (int draw = 0; draw < 2 * DRAWS; draw++) between_flanks(&sites[i], draw % 2);
+        alone(&sites[i], alike);
+        if (alike) in_a_plain_record(&sites[i]);
+    }
+}
+
+int main(void)
+{
+    random_seed(NULL, 20261117);
+    table(even, EVEN, 1);
+    table(uneven, UNEVEN, 0);
+    printf("%d sites that read alike on both strands are found, %d others absent: %lu answers\n", (int)EVEN, (int)UNEVEN, answers);
+    return 0;
+}
