@@ -1,54 +1,111 @@
-/* The benchmark: the library beside its C twin, in one run, on five words and four sizes.
+/* The benchmark: the library beside its C twin, in one run, on five words and four sizes in either reading, and inverted
+ * records beside plain ones.
  *
  * Prints ratios, library over twin, since times of one machine say little; a ratio above the limit is marked with !.
  * The argument names the file that gets the drawing of growth. Ends with 1 if a tested call at 1,000 letters, a fill or
- * reading FASTA is above its limit. */
+ * reading FASTA is above its limit, or an inverted record at 1,000 letters takes longer beside a plain one than it may. */
+#include <math.h>
+
 #include "calls.h"
+#include "cells.h"
 #include "timing.h"
 #include "words.h"
 
 static const size_t sizes[] = {125, 250, 500, 1000};
-enum { SIZES = 4, SAMPLES = 2000, ROUNDS = 10 };
+static const char *const reading_names[] = {"plain", "inverted"};
+enum { SIZES = 4, LARGEST = 1000, SAMPLES = 2000, ROUNDS = 10, TEST_ALONE = CALL_LENGTH };
 
-static void heading(const char *title)
+/* The times of every call on every word, at the size that was measured last. */
+static struct pair least[PAIRS][ALL_WORDS];
+
+static void heading(const char *title, enum reading reading)
 {
     printf("\n%-26s", title);
     for (int w = 0; w < WORDS; w++)
-        printf("%13s", word_names[w]);
+        printf("%13s", word_names[reading * WORDS + w]);
     puts("");
 }
 
 static const char *mark(double ratio, double limit) { return ratio > limit ? "!" : " "; }
 
 /* Times every call on every word in rounds, so that no pair has the machine's bad moment alone. */
-static void measure_calls(size_t n, struct pair least[PAIRS][WORDS])
+static void measure_calls(size_t n)
 {
     for (int round = 0; round < ROUNDS; round++)
         for (int c = 0; c < PAIRS; c++)
-            for (int w = 0; w < WORDS; w++) {
+            for (int w = 0; w < ALL_WORDS; w++) {
+                if (opens_otherwise(c, word_reading(w)))
+                    continue;
                 struct pair t = time_call(c, w, n, SAMPLES / ROUNDS), *to = &least[c][w];
                 to->library = round == 0 || t.library < to->library ? t.library : to->library;
                 to->twin = round == 0 || t.twin < to->twin ? t.twin : to->twin;
             }
 }
 
-/* Every tested call at n letters; how many ratios are above the limit. The times of the test alone go to `test`. */
-static int tested_calls(size_t n, double *test)
+/* Every tested call on records of a reading; how many ratios are above the limit. */
+static int tested_calls(size_t n, enum reading reading)
 {
-    static struct pair least[PAIRS][WORDS];
     char title[64];
     int above = 0;
-    snprintf(title, sizeof title, "%zu letters", n);
-    heading(title);
-    measure_calls(n, least);
-    for (int w = 0; w < WORDS; w++)
-        test[w] = least[TEST_ALONE][w].library;
+    snprintf(title, sizeof title, "%zu letters, %s", n, reading_names[reading]);
+    heading(title, reading);
     for (int c = 0; c < PAIRS; c++) {
+        if (opens_otherwise(c, reading))
+            continue;
         printf("  %-24s", calls[c].name);
         for (int w = 0; w < WORDS; w++) {
-            double us = least[c][w].library, ratio = us / least[c][w].twin;
+            const struct pair *t = &least[c][reading * WORDS + w];
+            double ratio = t->library / t->twin;
             above += c < CALLS && ratio > RATIO_LIMIT;
-            printf("%6.1f %5.2f%s", us, ratio, mark(ratio, RATIO_LIMIT));
+            printf("%6.1f %5.2f%s", t->library, ratio, mark(ratio, RATIO_LIMIT));
+        }
+        puts("");
+    }
+    return above;
+}
+
+static unsigned rows_of(int word)
+{
+    static struct sitting s;
+    seat(&s, word, word_reading(word), LARGEST, CAPACITY_MOST);
+    return count_of(s.store);
+}
+
+/* The rows of each inverted record and of the plain one that it is timed beside; how many pairs differ by more than 2 in
+ * 100, and so do not show what the reading costs. */
+static int rows_alike(void)
+{
+    int apart = 0;
+    printf("  %-24s", "rows, inverted and plain");
+    for (int w = 0; w < WORDS; w++) {
+        unsigned inverted = rows_of(WORDS + w), plain = rows_of(plain_match(w));
+        bool differ = fabs((double)inverted - plain) > 0.02 * plain;
+        apart += differ;
+        printf("%6u %5u%s", inverted, plain, differ ? "!" : " ");
+    }
+    puts("");
+    return apart;
+}
+
+/* Inverted records of 1,000 letters beside plain ones with as many rows, in the library and in the twin; how many ratios
+ * of the library are above the limit. The records are those that measure_calls met last. */
+static int inverted_beside_plain(void)
+{
+    printf("\nInverted records beside plain ones of as many letters and rows: time of the one over that of the other, in the "
+           "library and in the twin; ! where above %.1f\n", READING_LIMIT);
+    printf("\n%-26s", "1000 letters, plain");
+    for (int w = 0; w < WORDS; w++)
+        printf("%13s", word_names[plain_match(w)]);
+    heading("1000 letters, inverted", INVERTED);
+    int above = rows_alike();
+    for (int c = CALL_OPEN_INVERTED; c < CALLS; c++) {
+        int plain = c == CALL_OPEN_INVERTED ? (int)CALL_OPEN : c;
+        printf("  %-24s", calls[c].name);
+        for (int w = 0; w < WORDS; w++) {
+            const struct pair *t = &least[c][WORDS + w], *beside = &least[plain][plain_match(w)];
+            double ratio = t->library / beside->library;
+            above += ratio > READING_LIMIT;
+            printf("%6.2f%s%5.2f ", ratio, mark(ratio, READING_LIMIT), t->twin / beside->twin);
         }
         puts("");
     }
@@ -65,7 +122,7 @@ static void against_floor(double test[SIZES][WORDS])
             floor[i] = round == 0 || now < floor[i] ? now : floor[i];
         }
     puts("\nThe test alone (length: the test and one read), in microseconds, and as a multiple of one reading pass");
-    heading("letters, pass");
+    heading("letters, pass", PLAIN);
     for (int i = 0; i < SIZES; i++) {
         printf("  %4zu   %6.2f             ", sizes[i], floor[i]);
         for (int w = 0; w < WORDS; w++)
@@ -93,9 +150,9 @@ static void against_surfaces(void)
 {
     struct ways add[WORDS], take[WORDS];
     puts("\nA change at the right end of 1,000 letters, in microseconds");
-    heading("");
+    heading("", PLAIN);
     for (int w = 0; w < WORDS; w++)
-        time_changes(w, 1000, SAMPLES / 5, &add[w], &take[w]);
+        time_changes(w, LARGEST, SAMPLES / 5, &add[w], &take[w]);
     row_of_ways("add", add);
     row_of_ways("remove", take);
 }
@@ -107,7 +164,7 @@ static int untested(const char *name, double limit, struct pair (*time)(int word
     int above = 0;
     printf("  %-24s", name);
     for (int w = 0; w < WORDS; w++) {
-        struct pair t = time(w, 1000, SAMPLES);
+        struct pair t = time(w, LARGEST, SAMPLES);
         double ratio = t.library / t.twin;
         above += ratio > limit || ratio < 0;
         printf("%6.1f %5.2f%s", t.library, ratio, mark(ratio, limit));
@@ -120,10 +177,10 @@ static int untested(const char *name, double limit, struct pair (*time)(int word
 static int without_a_test(void)
 {
     puts("\nFilling a record with 1,000 letters with no test between, in nanoseconds for each letter");
-    heading("");
+    heading("", PLAIN);
     int above = untested("fill", RATIO_LIMIT, time_fill);
     printf("\nReading a FASTA text of 1,000 letters in lines of 60, in microseconds; ! where above %.1f\n", FASTA_LIMIT);
-    heading("");
+    heading("", PLAIN);
     above += untested("fasta, capitals", FASTA_LIMIT, time_fasta);
     return above + untested("fasta, mixed case", FASTA_LIMIT, time_masked_fasta);
 }
@@ -143,9 +200,9 @@ static void growth(FILE *out)
 {
     static struct panel panels[2] = {{.title = "add right, tested (microseconds)"},
                                      {.title = "the test alone (microseconds)"}};
-    static const int shown[2] = {ADD_RIGHT, TEST_ALONE};
+    static const int shown[2] = {CALL_ADD_RIGHT, TEST_ALONE};
     puts("\nCost at 1,000 letters over cost at 125: 8 times the letters, 6.9 times the bytes of the store");
-    heading("");
+    heading("", PLAIN);
     for (int p = 0; p < 2; p++) {
         printf("  %-24s", calls[shown[p]].name);
         for (int w = 0; w < WORDS; w++) {
@@ -167,8 +224,13 @@ int main(int count, char **arguments)
     puts("Tested calls: microseconds of the library, and their ratio to the twin's; ! where above 1.5");
     double test[SIZES][WORDS];
     int above = 0;
-    for (int i = 0; i < SIZES; i++)
-        above = tested_calls(sizes[i], test[i]);
+    for (int i = 0; i < SIZES; i++) {
+        measure_calls(sizes[i]);
+        above = tested_calls(sizes[i], PLAIN) + tested_calls(sizes[i], INVERTED);
+        for (int w = 0; w < WORDS; w++)
+            test[i][w] = least[TEST_ALONE][w].library;
+    }
+    above += inverted_beside_plain();
     against_floor(test);
     against_surfaces();
     above += without_a_test();

@@ -1,8 +1,9 @@
 /* Today's library beside that of another revision, in one run: every call on five words of 1,000 letters, the two in turn,
- * on records that each made with its own calls. The smallest of many samples counts. Where a library happens to lie in
- * memory seems to move a short call by several per cent, so several copies of each are loaded, a round on each pair. Prints
- * ratios, today over the other, for each call and word and for each call over its five words (the geometric mean), and last
- * the largest of these: that one figure says whether a call got slower.
+ * on records that each made with its own calls, plain ones and, where both can open such, inverted ones. The smallest of
+ * many samples counts. Where a library happens to lie in memory seems to move a short call by several per cent, so several
+ * copies of each are loaded, a round on each pair. Prints ratios, today over the other, for each call and word and for each
+ * call over the five words of a reading (the geometric mean), and last the largest of these: that one figure says whether
+ * a call got slower.
  *
  *     beside FOLDER [LIMIT]        FOLDER/today-1.so, FOLDER/other-1.so, today-2.so and so on, COPIES of each;
  *                                  ends with 1 if that figure is above the limit, or if a call was refused */
@@ -16,14 +17,15 @@
 #include "clock.h"
 #include "words.h"
 
-enum { LETTERS = 1000, CAPACITY = LETTERS + 24, COPIES = 8, ROUNDS = 8 * COPIES, SAMPLES = 60, OPEN = 0, FASTA = CALLS, MASKED = CALLS + 1, ALL = CALLS + 2 };
+enum { LETTERS = 1000, CAPACITY = LETTERS + 24, COPIES = 8, ROUNDS = 8 * COPIES, SAMPLES = 60 };
+enum { FASTA = CALLS, MASKED, ALL };
 
 static library copies[COPIES][2], *sides = copies[0];
 static unsigned char has[2][LIBRARY_CALLS];
-static struct sitting records[2][WORDS], s;
+static struct sitting records[2][BOTH_WORDS], s;
 static uint8_t fasta_texts[2][2 * LETTERS + 6], fasta_text[2 * LETTERS + 6];
 static size_t fasta_length;
-static int64_t least[ALL][WORDS][2];
+static int64_t least[ALL][BOTH_WORDS][2];
 static bool refused[ALL];
 static volatile uint64_t sink;
 
@@ -39,7 +41,7 @@ static void make_record(struct sitting *to, const library *by, int word)
     to->capacity = CAPACITY;
     to->letter = letters[LETTERS];
     to->place = LETTERS / 2;
-    by->open(to->store, to->length, CAPACITY);
+    (word_reading(word) ? by->open_inverted : by->open)(to->store, to->length, CAPACITY);
     for (size_t i = 0; i < LETTERS; i++)
         by->add_right(to->store, to->length, letters[i]);
     uint64_t longest = by->longest(to->store, to->length);
@@ -49,7 +51,7 @@ static void make_record(struct sitting *to, const library *by, int word)
 }
 
 /* Opening and reading FASTA are short, and can be done again at once. */
-static int times_of(int call) { return call == OPEN || call >= FASTA ? 10 : 1; }
+static int times_of(int call) { return call <= CALL_OPEN_INVERTED || call >= FASTA ? 10 : 1; }
 
 /* One call of one library. Both work in the same bytes, which hold that library's record or text before each sample. */
 static int64_t sample(int call, int word, int side)
@@ -103,12 +105,18 @@ static bool in_both(int call)
     return has[0][which] && has[1][which];
 }
 
-/* One line for a call: microseconds and ratio on each word, and the ratio over all five. */
-static double print_call(int call, int64_t cost)
+/* How many readings both libraries have: the first version opened plain records alone. */
+static int readings(void) { return in_both(CALL_OPEN_INVERTED) ? 2 : 1; }
+
+/* Whether a call is timed on the words of a reading: its own opening, and FASTA, which takes no record, once. */
+static bool timed(int call, int reading) { return in_both(call) && !opens_otherwise(call, reading) && !(call >= FASTA && reading); }
+
+/* One line for a call: microseconds and ratio on each word of a reading, and the ratio over all five. */
+static double print_call(int call, int reading, int64_t cost)
 {
     double product = 1;
     printf("  %-24s", name_of(call));
-    for (int word = 0; word < WORDS; word++) {
+    for (int word = reading * WORDS; word < (reading + 1) * WORDS; word++) {
         double today = (double)(least[call][word][0] - cost), ratio = today / (double)(least[call][word][1] - cost);
         printf("%6.1f %5.2f ", today / times_of(call) / 1e3, ratio);
         product *= ratio;
@@ -118,22 +126,32 @@ static double print_call(int call, int64_t cost)
     return refused[call] ? INFINITY : over_all;
 }
 
-/* Every call; the largest ratio over all words, which is told with its call. */
+static void heading(int reading)
+{
+    printf("\n%-26s", reading ? "inverted records" : "plain records");
+    for (int word = reading * WORDS; word < (reading + 1) * WORDS; word++)
+        printf("%13s", word_names[word]);
+    printf("%10s\n", "all");
+}
+
+/* Every call; the largest ratio over all words of a reading, which is told with its call. */
 static double print_calls(void)
 {
     double largest = 0;
     int64_t cost = clock_cost();
-    int of = 0;
-    for (int call = 0; call < ALL; call++) {
-        if (!in_both(call)) {
-            printf("  %-24s  not in both\n", name_of(call));
-            continue;
+    int of = 0, read = 0;
+    for (int reading = 0; reading < readings(); reading++) {
+        heading(reading);
+        for (int call = 0; call < ALL; call++) {
+            double ratio = timed(call, reading) ? print_call(call, reading, cost) : 0;
+            if (ratio > largest)
+                largest = ratio, of = call, read = reading;
         }
-        double ratio = print_call(call, cost);
-        if (ratio > largest)
-            largest = ratio, of = call;
     }
-    printf("\nThe largest ratio of a call over all words is %.3f (%s)\n", largest, name_of(of));
+    for (int call = 0; call < ALL; call++)
+        if (!in_both(call))
+            printf("  %-24s  not in both\n", name_of(call));
+    printf("\nThe largest ratio of a call over all words is %.3f (%s%s)\n", largest, name_of(of), read ? ", inverted" : "");
     return largest;
 }
 
@@ -145,7 +163,7 @@ static void load(const char *folder)
         snprintf(path, sizeof path, "%s/%s-%d.so", folder, i % 2 ? "other" : "today", i / 2 + 1);
         library_load(&copies[i / 2][i % 2], path, has[i % 2]);
     }
-    for (int i = 0; i < 2 * WORDS; i++)
+    for (int i = 0; i < 2 * WORDS * readings(); i++)
         make_record(&records[i % 2][i / 2], &sides[i % 2], i / 2);
 }
 
@@ -159,13 +177,11 @@ int main(int count, char **arguments)
     for (int round = 0; round < ROUNDS; round++) {
         sides = copies[round % COPIES];
         for (int call = 0; call < ALL; call++)
-            for (int word = 0; word < WORDS && in_both(call); word++)
-                measure(call, word);
+            for (int word = 0; word < WORDS * readings(); word++)
+                if (timed(call, word_reading(word)))
+                    measure(call, word);
     }
-    printf("Calls at 1,000 letters: microseconds of today's library, and their ratio to those of the other revision\n%-26s", "");
-    for (int word = 0; word < WORDS; word++)
-        printf("%13s", word_names[word]);
-    printf("%10s\n", "all");
+    puts("Calls at 1,000 letters: microseconds of today's library, and their ratio to those of the other revision");
     double largest = print_calls();
     return largest > (count == 3 ? strtod(arguments[2], NULL) : DBL_MAX);
 }

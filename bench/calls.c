@@ -11,12 +11,13 @@ const library *measured = &linked_library;
 
 #define BOTH(name, args)                                                               \
     static uint64_t library_##name(struct sitting *s) { return measured->name args; } \
-    static uint64_t plain_##name(struct sitting *s) { return twin_##name args; }
+    static uint64_t twins_##name(struct sitting *s) { return twin_##name args; }
 
 static const uint8_t identifier[] = "chr1_sample";
 #define NAME identifier, sizeof identifier - 1
 
 BOTH(open, (s->store, s->length, s->capacity))
+BOTH(open_inverted, (s->store, s->length, s->capacity))
 BOTH(add_left, (s->store, s->length, s->letter))
 BOTH(add_right, (s->store, s->length, s->letter))
 BOTH(remove_left, (s->store, s->length))
@@ -37,25 +38,26 @@ static uint64_t spell_by_loop(struct sitting *s)
     return twin_spell_by_loop(s->store, s->length, s->row, s->out, s->out_length);
 }
 
-#define CALL(name, changes) {#name, changes, library_##name, plain_##name}
+#define CALL(name, changes) {#name, changes, library_##name, twins_##name}
 
 const struct call calls[PAIRS] = {
-    CALL(open, true),
-    CALL(add_left, true),
-    CALL(add_right, true),
-    CALL(remove_left, true),
-    CALL(remove_right, true),
-    CALL(length, false),
-    CALL(count, false),
-    CALL(letter, false),
-    CALL(longest, false),
-    CALL(longest_left, false),
-    CALL(longest_right, false),
-    CALL(row, false),
-    CALL(spell, false),
-    CALL(find, false),
-    CALL(list, false),
-    {"spell, twin loops", false, library_spell, spell_by_loop},
+    [CALL_OPEN] = CALL(open, true),
+    [CALL_OPEN_INVERTED] = CALL(open_inverted, true),
+    [CALL_ADD_LEFT] = CALL(add_left, true),
+    [CALL_ADD_RIGHT] = CALL(add_right, true),
+    [CALL_REMOVE_LEFT] = CALL(remove_left, true),
+    [CALL_REMOVE_RIGHT] = CALL(remove_right, true),
+    [CALL_LENGTH] = CALL(length, false),
+    [CALL_COUNT] = CALL(count, false),
+    [CALL_LETTER] = CALL(letter, false),
+    [CALL_LONGEST] = CALL(longest, false),
+    [CALL_LONGEST_LEFT] = CALL(longest_left, false),
+    [CALL_LONGEST_RIGHT] = CALL(longest_right, false),
+    [CALL_ROW] = CALL(row, false),
+    [CALL_SPELL] = CALL(spell, false),
+    [CALL_FIND] = CALL(find, false),
+    [CALL_LIST] = CALL(list, false),
+    [CALL_SPELL_BY_LOOP] = {"spell, twin loops", false, library_spell, spell_by_loop},
 };
 
 /* The row of the longest palindrome, by its length in the table. */
@@ -68,7 +70,7 @@ static unsigned longest_row(const uint8_t *b)
     return best;
 }
 
-void seat(struct sitting *s, int word, size_t n, size_t capacity)
+void seat(struct sitting *s, int word, int reading, size_t n, size_t capacity)
 {
     uint8_t letters[CAPACITY_MOST + 1];
     make_word(word, letters, n + 1);
@@ -76,7 +78,7 @@ void seat(struct sitting *s, int word, size_t n, size_t capacity)
     s->length = 48 * capacity + 256;
     s->scratch_length = sizeof s->scratch;
     s->out_length = sizeof s->out;
-    bare_open(s->store, capacity);
+    bare_open(s->store, capacity, reading);
     for (size_t i = 0; i < n; i++)
         bare_add(s->store, RIGHT, letters[i]);
     s->capacity = capacity;

@@ -10,7 +10,31 @@
 #include "../tests/library.h"
 
 enum { CAPACITY_MOST = 1024, STORE_MOST = 48 * CAPACITY_MOST + 256, OUT_MOST = 45 * CAPACITY_MOST };
-enum { SCRATCH_MOST = 4 * CAPACITY_MOST, CALLS = 15, PAIRS = 16 };
+enum { SCRATCH_MOST = 4 * CAPACITY_MOST };
+
+/* The calls in the order of their table, and last the spelling call once more beside a twin that loops instead of
+ * recursing. Both openings stand first, so that CALL_OPEN + reading gives that reading. */
+enum {
+    CALL_OPEN,
+    CALL_OPEN_INVERTED,
+    CALL_ADD_LEFT,
+    CALL_ADD_RIGHT,
+    CALL_REMOVE_LEFT,
+    CALL_REMOVE_RIGHT,
+    CALL_LENGTH,
+    CALL_COUNT,
+    CALL_LETTER,
+    CALL_LONGEST,
+    CALL_LONGEST_LEFT,
+    CALL_LONGEST_RIGHT,
+    CALL_ROW,
+    CALL_SPELL,
+    CALL_FIND,
+    CALL_LIST,
+    CALLS,
+    CALL_SPELL_BY_LOOP = CALLS,
+    PAIRS
+};
 
 /* What a call is lent and told; the same store serves every call. */
 struct sitting {
@@ -29,11 +53,16 @@ struct call {
 /* The library whose calls are run: the one that the program is linked with, until another is put in its place. */
 extern const library linked_library, *measured;
 
-/* The calls, and last the spelling call once more beside a twin that loops instead of recursing. */
 extern const struct call calls[PAIRS];
 
-/* A record of n letters of a word at the given capacity, with arguments that make each call work hard: the row and
- * the piece are those of the longest palindrome. */
-void seat(struct sitting *s, int word, size_t n, size_t capacity);
+/* Whether a call is the opening of the other reading: a record is timed with its own. */
+static inline bool opens_otherwise(int call, int reading)
+{
+    return call <= CALL_OPEN_INVERTED && call != CALL_OPEN + reading;
+}
+
+/* A record of n letters of a word in a reading, 0 or 1, at the given capacity, with arguments that make each call work
+ * hard: the row and the piece are those of the longest palindrome. */
+void seat(struct sitting *s, int word, int reading, size_t n, size_t capacity);
 
 #endif

@@ -12,10 +12,17 @@
 enum { LENGTH = 0, LINK = 1, INNER = 2, OUTER = 3, EDGE = 4, ORDER = 8, RANK = 9 };
 enum { ROW_BYTES = 24, IMAGINARY = 0, EMPTY = 1, ROWS_MOST = 1026 };
 enum side { LEFT, RIGHT };
+enum reading { PLAIN, INVERTED };
 
 /* Which bytes are letters, and where a letter's edge stands among the four of a row. */
 static const uint8_t letter_table[256] = {['A'] = 1, ['C'] = 1, ['G'] = 1, ['T'] = 1};
 static const uint8_t edge_place[256] = {['A'] = 0, ['C'] = 1, ['G'] = 2, ['T'] = 3};
+
+/* The letter that must face a letter, in a plain and in an inverted record. Only letters that were tested are looked up. */
+static const uint8_t partner_tables[2][256] = {
+    [PLAIN] = {['A'] = 'A', ['C'] = 'C', ['G'] = 'G', ['T'] = 'T'},
+    [INVERTED] = {['A'] = 'T', ['C'] = 'G', ['G'] = 'C', ['T'] = 'A'},
+};
 
 static inline unsigned get(const uint8_t *b, size_t row, size_t cell)
 {
@@ -33,10 +40,13 @@ static inline void put(uint8_t *b, size_t row, size_t cell, unsigned v)
 static inline unsigned capacity_of(const uint8_t *b) { return get(b, 0, 8); }
 static inline unsigned size_of(const uint8_t *b) { return get(b, 0, 9); }
 static inline unsigned count_of(const uint8_t *b) { return get(b, 0, 10); }
+static inline unsigned reading_of(const uint8_t *b) { return get(b, 0, 11); }
 static inline unsigned end_row(const uint8_t *b, enum side side) { return get(b, 1, side == LEFT ? 8 : 9); }
 static inline void set_end_row(uint8_t *b, enum side side, unsigned r) { put(b, 1, side == LEFT ? 8 : 9, r); }
 
 static inline const uint8_t *letters_of(const uint8_t *b) { return b + ROW_BYTES * ((size_t)capacity_of(b) + 2); }
+/* Chosen once for each call: no comparison asks for the reading again. */
+static inline const uint8_t *partners_of(const uint8_t *b) { return partner_tables[reading_of(b)]; }
 
 static inline unsigned edge_of(const uint8_t *b, size_t row, uint8_t letter)
 {

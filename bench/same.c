@@ -1,7 +1,8 @@
 /* Whether the twin does the library's work: a benchmark of two programs that answer differently is worthless.
  *
- * Every call on every word, long random sittings from both ends, and damaged stores go through both, and every answer
- * and every lent byte must agree. Prints how many calls were compared, and ends with 1 at the first difference. */
+ * Every call on every word in either reading, long random sittings from both ends, and damaged stores go through both, and
+ * every answer and every lent byte must agree. Prints how many calls were compared, and ends with 1 at the first
+ * difference. */
 #include <stdio.h>
 #include <stdlib.h>
 #include <string.h>
@@ -9,8 +10,6 @@
 #include "calls.h"
 #include "cells.h"
 #include "words.h"
-
-enum { LENGTH_CALL = 5, SPELL = 12, FIND = 13 };
 
 static struct sitting here, there;
 static unsigned long compared, refused;
@@ -38,8 +37,8 @@ static void compare_all(const struct sitting *s, const char *where)
 /* Spelling and listing into a buffer that just fits, and into one that is a byte short. */
 static void tight(const struct sitting *s)
 {
-    for (int i = SPELL; i < PAIRS; i++) {
-        if (i == FIND)
+    for (int i = CALL_SPELL; i < PAIRS; i++) {
+        if (i == CALL_FIND)
             continue;
         here = there = *s;
         size_t fits = compare(&calls[i], "a large buffer") >> 32 & 0xffff;
@@ -51,35 +50,66 @@ static void tight(const struct sitting *s)
     }
 }
 
-/* The inputs that the benchmark times, and the largest records. */
-static void on_words(void)
+/* Every number in the reading cell, the right one and the other reading's among them; in an empty record both are good. */
+static void readings(const struct sitting *s)
 {
-    static const size_t sizes[] = {0, 1, 2, 125, 250, 500, 1000};
-    static struct sitting s;
-    for (int word = 0; word < WORDS; word++) {
-        for (size_t i = 0; i < sizeof sizes / sizeof *sizes; i++) {
-            seat(&s, word, sizes[i], sizes[i] + 24);
-            compare_all(&s, word_names[word]);
-            tight(&s);
+    static struct sitting changed;
+    changed = *s;
+    for (unsigned number = 0; number < 65536; number += number < 520 ? 1 : 211) {
+        put(changed.store, 0, 11, number);
+        if (number <= INVERTED) {
+            compare_all(&changed, "another reading");
+            continue;
         }
-        seat(&s, word, 1024, 1024);
-        compare_all(&s, word_names[word]);
+        here = there = changed;
+        refused += compare(&calls[CALL_LENGTH], "no reading") == 3;
     }
 }
 
-/* Additions and removals at both ends, with a question now and then. */
-static void sittings(uint32_t seed, size_t capacity, int letters, int steps)
+/* The inputs that the benchmark times, and the largest records; each word in both readings, since one that was made for
+ * the other has few repeats or none. */
+static void on_words(enum reading reading)
 {
-    seat(&here, 1, 0, capacity);
+    static const size_t sizes[] = {0, 1, 2, 125, 250, 500, 1000};
+    static struct sitting s;
+    for (int word = 0; word < ALL_WORDS; word++) {
+        for (size_t i = 0; i < sizeof sizes / sizeof *sizes; i++) {
+            seat(&s, word, reading, sizes[i], sizes[i] + 24);
+            compare_all(&s, word_names[word]);
+            tight(&s);
+        }
+        seat(&s, word, reading, 1024, 1024);
+        compare_all(&s, word_names[word]);
+    }
+    for (size_t n = 0; n < 4; n++) {
+        seat(&s, WORDS + ALL_A, reading, n, 12);
+        readings(&s);
+    }
+}
+
+/* A piece to find: a short stretch of the record. */
+static void draw_piece(uint32_t r)
+{
+    size_t n = size_of(here.store), from = n == 0 ? 0 : r % n, length = r / 1024 % 9;
+    here.piece_length = there.piece_length = length < n - from ? length : n - from;
+    memcpy(here.piece, letters_of(here.store) + from, here.piece_length);
+    memcpy(there.piece, here.piece, here.piece_length);
+}
+
+/* Additions and removals at both ends, with a question now and then. */
+static void sittings(uint32_t seed, enum reading reading, size_t capacity, const char *letters, int steps)
+{
+    seat(&here, ALL_A, reading, 0, capacity);
     there = here;
     for (int i = 0; i < steps; i++) {
         uint32_t r = next_random(&seed) >> 8;
-        here.letter = there.letter = (uint64_t)"ACGT"[r % (unsigned)letters];
+        here.letter = there.letter = (uint64_t)letters[r % strlen(letters)];
         here.row = there.row = r / 7 % (capacity + 3);
         here.place = there.place = r / 11 % (capacity + 1);
+        draw_piece(r / 13);
         size_t what = r / 64 % 40;
-        bool rising = i / 300 % 3 != 2;
-        compare(&calls[what < PAIRS && what > 4 ? what : (rising ? 1 : 3) + r / 4096 % 2], "a sitting");
+        bool asks = what > CALL_REMOVE_RIGHT && what < PAIRS, rising = i / 300 % 3 != 2;
+        compare(&calls[asks ? what : (rising ? CALL_ADD_LEFT : CALL_REMOVE_LEFT) + r / 4096 % 2], "a sitting");
     }
 }
 
@@ -87,7 +117,7 @@ static void sittings(uint32_t seed, size_t capacity, int letters, int steps)
 static void damage(uint32_t seed, int word, size_t n, size_t capacity, int tries)
 {
     static struct sitting good;
-    seat(&good, word, n, capacity);
+    seat(&good, word, word_reading(word), n, capacity);
     size_t rows = ROW_BYTES * (capacity + 2), used = rows + capacity;
     for (int i = 0; i < tries; i++) {
         here = good;
@@ -102,18 +132,20 @@ static void damage(uint32_t seed, int word, size_t n, size_t capacity, int tries
                 put(here.store, at / 24, at % 24 / 2, (next_random(&seed) >> 4) % (unsigned)(capacity + 3));
         }
         there = here;
-        if (compare(&calls[LENGTH_CALL], "a damaged store") == 3)
+        if (compare(&calls[CALL_LENGTH], "a damaged store") == 3)
             refused++;
     }
 }
 
 int main(void)
 {
-    on_words();
-    sittings(7, 40, 2, 6000);
-    sittings(8, 300, 4, 6000);
-    sittings(9, 9, 3, 6000);
-    for (int word = 0; word < WORDS; word++) {
+    for (int reading = PLAIN; reading <= INVERTED; reading++) {
+        on_words(reading);
+        sittings(7, reading, 40, reading == PLAIN ? "AC" : "AT", 6000);
+        sittings(8, reading, 300, "ACGT", 6000);
+        sittings(9, reading, 9, reading == PLAIN ? "ACG" : "ATC", 6000);
+    }
+    for (int word = 0; word < BOTH_WORDS; word++) {
         damage((uint32_t)word + 1, word, 9, 12, 8000);
         damage((uint32_t)word + 9, word, 60, 64, 4000);
     }

@@ -1,7 +1,7 @@
 /* The stack that each call takes. A call runs on a stack of its own, painted beforehand, and the deepest byte that it
  * changed is looked up afterwards; a call of an empty function is taken off. The records are full ones of 1,024
- * letters, a letter less for additions, where spelling and finding have the longest palindrome there is and the list
- * the most lines. Ends with 1 if a call takes more than 64 KiB. */
+ * letters in either reading, a letter less for additions, where spelling and finding have the longest palindrome there is
+ * and the list the most lines. Ends with 1 if a call takes more than 64 KiB. */
 #include <stdio.h>
 #include <string.h>
 #include <ucontext.h>
@@ -53,12 +53,12 @@ static uint64_t read_fasta(struct sitting *unused)
 }
 
 /* The most that a call takes over the words; 0 where it was refused, which would measure little. */
-static size_t most_of(int call, size_t *word)
+static size_t most_of(int call, int *word)
 {
     size_t most = 0;
-    for (int w = 0; w < WORDS; w++) {
-        bool adds = strncmp(calls[call].name, "add", 3) == 0;
-        seat(&s, w, adds ? CAPACITY_MOST - 1 : CAPACITY_MOST, CAPACITY_MOST);
+    for (int w = 0; w < BOTH_WORDS; w++) {
+        bool adds = call == CALL_ADD_LEFT || call == CALL_ADD_RIGHT;
+        seat(&s, w, word_reading(w), adds ? CAPACITY_MOST - 1 : CAPACITY_MOST, CAPACITY_MOST);
         before = s;
         calls[call].library(&s); /* once, so that the loader has bound what the call needs */
         s = before;
@@ -67,7 +67,7 @@ static size_t most_of(int call, size_t *word)
             return 0;
         if (depth > most) {
             most = depth;
-            *word = (size_t)w;
+            *word = w;
         }
     }
     return most;
@@ -78,9 +78,10 @@ int main(void)
     int bad = 0;
     puts("\nStack of each call, bytes, and the word that takes most");
     for (int call = 0; call < CALLS; call++) {
-        size_t word = 0, most = most_of(call, &word);
+        int word = 0;
+        size_t most = most_of(call, &word);
         bad += most == 0 || most > LIMIT;
-        printf("  %-24s%8zu  %s%s\n", calls[call].name, most, word_names[word],
+        printf("  %-24s%8zu  %s%s%s\n", calls[call].name, most, word_names[word], word_reading(word) ? ", inverted" : "",
                most == 0 ? "  refused!" : most > LIMIT ? "  above 64 KiB!" : "");
     }
     size_t empty = depth_of(nothing), fasta = depth_of(read_fasta) - empty;

@@ -11,13 +11,14 @@ struct pair {
     double library, twin;
 };
 
-/* The ratio that a tested call may reach at 1,000 letters, and the one for reading FASTA. */
+/* The ratio that a tested call may reach at 1,000 letters, the one for reading FASTA, and the one of a call on an inverted
+ * record to the same call on a plain one with as many letters and rows. */
 #define RATIO_LIMIT 1.5
 #define FASTA_LIMIT 1.2
+#define READING_LIMIT 1.2
 
-enum { TEST_ALONE = 5, ADD_RIGHT = 2 };
-
-/* One call on n letters of a word; the smallest of many samples, library and twin in turn. */
+/* One call on n letters of a word, in the reading that it is made for; the smallest of many samples, library and twin in
+ * turn. */
 struct pair time_call(int call, int word, size_t n, int samples);
 
 /* One pass that reads the bytes that a store of this capacity uses. */

@@ -14,6 +14,7 @@
 bool twin_is_good(const uint8_t *store, size_t length);
 
 uint64_t twin_open(uint8_t *store, size_t length, uint64_t capacity);
+uint64_t twin_open_inverted(uint8_t *store, size_t length, uint64_t capacity);
 uint64_t twin_add_left(uint8_t *store, size_t length, uint64_t letter);
 uint64_t twin_add_right(uint8_t *store, size_t length, uint64_t letter);
 uint64_t twin_remove_left(uint8_t *store, size_t length);
@@ -32,12 +33,12 @@ uint64_t twin_find(const uint8_t *store, size_t length, const uint8_t *piece, si
 uint64_t twin_list(const uint8_t *store, size_t length, const uint8_t *identifier, size_t identifier_length,
                    uint8_t *scratch, size_t scratch_length, uint8_t *out, size_t out_length);
 
-void bare_open(uint8_t *store, size_t capacity);
+void bare_open(uint8_t *store, size_t capacity, enum reading reading);
 uint64_t bare_add(uint8_t *store, enum side side, uint8_t letter);
 uint64_t bare_remove(uint8_t *store, enum side side);
 size_t bare_list(const uint8_t *store, const uint8_t *name, size_t name_length, uint8_t *scratch, uint8_t *out);
 
-/* Opens a record of the largest capacity and adds each letter at the right, with no test of the store. */
+/* Opens a plain record of the largest capacity and adds each letter at the right, with no test of the store. */
 uint64_t twin_fill(uint8_t *store, size_t length, const uint8_t *letters, size_t n);
 
 static inline uint64_t answer(bool flag, unsigned row, unsigned first, unsigned second)

@@ -1,14 +1,21 @@
 /* The twin's calls that change a record: the test of the store and of the arguments, then the change. */
 #include "twin.h"
 
-uint64_t twin_open(uint8_t *store, size_t length, uint64_t capacity)
+static uint64_t open(uint8_t *store, size_t length, uint64_t capacity, enum reading reading)
 {
     if (capacity < 1 || capacity > 1024)
         return 1;
     if (length < 48 * capacity + 256)
         return 2;
-    bare_open(store, capacity);
+    bare_open(store, capacity, reading);
     return 0;
+}
+
+uint64_t twin_open(uint8_t *store, size_t length, uint64_t capacity) { return open(store, length, capacity, PLAIN); }
+
+uint64_t twin_open_inverted(uint8_t *store, size_t length, uint64_t capacity)
+{
+    return open(store, length, capacity, INVERTED);
 }
 
 static uint64_t add(uint8_t *store, size_t length, enum side side, uint64_t letter)

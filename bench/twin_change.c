@@ -2,10 +2,11 @@
 #include "links.h"
 #include "twin.h"
 
-void bare_open(uint8_t *b, size_t capacity)
+void bare_open(uint8_t *b, size_t capacity, enum reading reading)
 {
     memset(b, 0, ROW_BYTES * (capacity + 2) + capacity);
     put(b, 0, 8, (unsigned)capacity);
+    put(b, 0, 11, reading);
     put(b, EMPTY, LENGTH, 1);
     set_end_row(b, LEFT, EMPTY);
     set_end_row(b, RIGHT, EMPTY);
@@ -29,18 +30,19 @@ static unsigned hang(uint8_t *b, struct view v, unsigned u, uint8_t d)
     return row;
 }
 
-uint64_t bare_add(uint8_t *b, enum side side, uint8_t d)
+uint64_t bare_add(uint8_t *b, enum side side, uint8_t letter)
 {
     unsigned n = size_of(b);
     struct view v = view_of(b, side);
-    unsigned u = walk(b, v, n, end_row(b, side), d), row = edge_of(b, u, d);
+    uint8_t d = v.seen_as[letter];
+    unsigned u = walk(b, v, n, end_row(b, side), d), row = made(b, v, u, d);
     bool is_new = row == 0;
     if (is_new)
         row = hang(b, v, u, d);
     uint8_t *w = b + (letters_of(b) - b);
     if (side == LEFT)
         memmove(w + 1, w, n);
-    w[side == LEFT ? 0 : n] = d;
+    w[side == LEFT ? 0 : n] = letter;
     put(b, 0, 9, n + 1);
     set_end_row(b, side, row);
     if (get(b, row, LENGTH) == n + 2)
@@ -65,12 +67,12 @@ uint64_t bare_remove(uint8_t *b, enum side side)
 {
     unsigned n = size_of(b), q = end_row(b, side), last = EMPTY;
     struct view v = view_of(b, side);
-    bool met = false;
+    bool met = q == EMPTY; /* the empty string stands everywhere, and is no repeat that could go */
     for (size_t k = 0; k + 1 < n; k++) {
         last = step(b, v, k, last, seen(v, k));
         met |= last == q;
     }
-    uint8_t letter = seen(v, n - 1);
+    uint8_t letter = raw(v, n - 1);
     if (get(b, q, LENGTH) == n + 1)
         set_end_row(b, side == LEFT ? RIGHT : LEFT, get(b, q, LINK));
     set_end_row(b, side, last);
@@ -87,7 +89,7 @@ uint64_t bare_remove(uint8_t *b, enum side side)
 uint64_t twin_fill(uint8_t *b, size_t length, const uint8_t *letters, size_t n)
 {
     (void)length;
-    bare_open(b, 1024);
+    bare_open(b, 1024, PLAIN);
     for (size_t i = 0; i < n; i++)
         bare_add(b, RIGHT, letters[i]);
     return n;

@@ -32,9 +32,11 @@ static uint8_t *put_line(uint8_t *at, const uint8_t *name, size_t length, unsign
     return at;
 }
 
-/* Marks the row; whether it was met for the first time. */
+/* Marks the row; whether it is a palindrome's and was met for the first time. */
 static inline bool first_met(const uint8_t *b, uint8_t *marks, unsigned row)
 {
+    if (row == EMPTY)
+        return false;
     unsigned rank = get(b, row, RANK);
     bool first = !marks[rank];
     marks[rank] = 1;

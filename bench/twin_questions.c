@@ -47,6 +47,8 @@ static uint64_t longest_at(const uint8_t *store, size_t length, enum side side)
     unsigned n = size_of(store), end = end_row(store, side), row = EMPTY;
     if (n == 0)
         return 6;
+    if (end == EMPTY)
+        return answer(false, EMPTY, 0, 0);
     struct view v = view_of(store, side);
     bool met = false;
     for (size_t k = 0; k + 1 < n; k++) {
@@ -85,13 +87,14 @@ static uint64_t judge_spell(const uint8_t *store, size_t length, uint64_t row, s
 }
 
 /* Outwards from the inner row, by recursion: the form that the library has. */
-static void spell_at(const uint8_t *b, unsigned row, uint8_t *out, size_t at)
+static void spell_at(const uint8_t *b, const uint8_t *partners, unsigned row, uint8_t *out, size_t at)
 {
     if (row < 2)
         return;
     uint8_t letter = (uint8_t)get(b, row, OUTER);
-    spell_at(b, get(b, row, INNER), out, at + 1);
-    out[at] = out[at + get(b, row, LENGTH) - 2] = letter;
+    spell_at(b, partners, get(b, row, INNER), out, at + 1);
+    out[at] = partners[letter];
+    out[at + get(b, row, LENGTH) - 2] = letter;
 }
 
 uint64_t twin_spell(const uint8_t *store, size_t length, uint64_t row, uint8_t *out, size_t out_length)
@@ -100,7 +103,7 @@ uint64_t twin_spell(const uint8_t *store, size_t length, uint64_t row, uint8_t *
     uint64_t refusal = judge_spell(store, length, row, out_length, &n);
     if (refusal != 0)
         return refusal;
-    spell_at(store, (unsigned)row, out, 0);
+    spell_at(store, partners_of(store), (unsigned)row, out, 0);
     return answer(false, 0, (unsigned)n, 0);
 }
 
@@ -110,8 +113,12 @@ uint64_t twin_spell_by_loop(const uint8_t *store, size_t length, uint64_t row, u
     uint64_t refusal = judge_spell(store, length, row, out_length, &n);
     if (refusal != 0)
         return refusal;
-    for (size_t at = 0; row > EMPTY; at++, row = get(store, row, INNER))
-        out[at] = out[n - 1 - at] = (uint8_t)get(store, row, OUTER);
+    const uint8_t *partners = partners_of(store);
+    for (size_t at = 0; row > EMPTY; at++, row = get(store, row, INNER)) {
+        uint8_t letter = (uint8_t)get(store, row, OUTER);
+        out[at] = partners[letter];
+        out[n - 1 - at] = letter;
+    }
     return answer(false, 0, (unsigned)n, 0);
 }
 
@@ -126,9 +133,10 @@ uint64_t twin_find(const uint8_t *store, size_t length, const uint8_t *piece, si
             return 4;
     if (n > size_of(store))
         return 0;
+    const uint8_t *partners = partners_of(store);
     unsigned row = n % 2 == 0 ? EMPTY : IMAGINARY;
     for (size_t k = n / 2; k < n; k++) {
-        if (piece[n - 1 - k] != piece[k])
+        if (piece[n - 1 - k] != partners[piece[k]])
             return 0;
         row = edge_of(store, row, piece[k]);
         if (row == 0)

@@ -15,7 +15,7 @@ static bool sized(const uint8_t *b, size_t length)
         return false;
     size_t capacity = capacity_of(b);
     return capacity >= 1 && capacity <= 1024 && length >= 48 * capacity + 256 && size_of(b) <= capacity
-           && get(b, 0, 11) == 0;
+           && reading_of(b) <= INVERTED;
 }
 
 static bool letters_right(const uint8_t *b)
@@ -83,6 +83,10 @@ static bool replay(const uint8_t *b, uint8_t *marks, struct tour *t)
     for (size_t k = 0; k < n; k++) {
         uint8_t d = v.first[k];
         unsigned u = walk(b, v, k, t->row, d), q = edge_of(b, u, d);
+        if (!serves(v, u)) {
+            t->row = EMPTY;
+            continue;
+        }
         if (!points_back(b, capacity, u, d, q))
             return false;
         if (!marks[q]) {

@@ -1,12 +1,20 @@
-/* The words that the benchmark runs on: the ordinary case and four that are hard for palindromes. */
+/* The words that the benchmark runs on: the ordinary case and four that are hard for palindromes, for either reading. */
 #ifndef BENCH_WORDS_H
 #define BENCH_WORDS_H
 
 #include <stddef.h>
 #include <stdint.h>
 
-enum { WORDS = 5 };
-extern const char *const word_names[WORDS];
+/* First the words of plain records, then in the same order those of inverted ones. Last a plain one that is only there to be
+ * timed beside random DNA in an inverted record: see words.c. */
+enum { RANDOM, ALL_A, AC, FIBONACCI, THUE_MORSE, WORDS, BOTH_WORDS = 2 * WORDS, SPARSE = BOTH_WORDS, ALL_WORDS };
+extern const char *const word_names[ALL_WORDS];
+
+/* The reading that a word is made for: 0 for plain, 1 for inverted. */
+static inline int word_reading(int word) { return word >= WORDS && word < BOTH_WORDS; }
+
+/* The word of plain records that has, at 1,000 letters, as many rows as an inverted record of word WORDS + w. */
+static inline int plain_match(int w) { return w == RANDOM ? (int)SPARSE : w; }
 
 /* Writes the first n letters of a word. */
 void make_word(int which, uint8_t *out, size_t n);
