@@ -50,7 +50,8 @@ static void tight(const struct sitting *s)
     }
 }
 
-/* Every number in the reading cell, the right one and the other reading's among them; in an empty record both are good. */
+/* Numbers of all sizes in the reading cell, the right one and the other reading's among them; in an empty record both
+ * are good. */
 static void readings(const struct sitting *s)
 {
     static struct sitting changed;

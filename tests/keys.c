@@ -158,10 +158,18 @@ static void longer_records(uint64_t capacity, int from_left)
 /* the list, its lines written as in the key */
 static void listed(const char *lines)
 {
-    static uint8_t scratch[MIRROR_LIST_SCRATCH(1024)], out[MIRROR_LIST_SIZE(1024)];
-    uint64_t n = strlen(lines), answer = mirror_list(store, length, (const uint8_t *)"e1", 2, scratch, sizeof scratch, out, sizeof out);
+    static uint8_t scratch[MIRROR_LIST_SCRATCH(1024)], out[MIRROR_LIST_SIZE(1024)], wanted[MIRROR_LIST_SIZE(1024)];
+    uint64_t n = strlen(lines), used = MIRROR_LIST_SCRATCH((mirror_length(store, length) >> 32) & 0xffff), wrong = 0;
+    memset(scratch, '?', sizeof scratch);
+    memset(out, '?', sizeof out);
+    memset(wanted, '?', sizeof wanted);
+    memcpy(wanted, lines, n);
+    uint64_t answer = mirror_list(store, length, (const uint8_t *)"e1", 2, scratch, sizeof scratch, out, sizeof out);
+    for (size_t i = 0; i < sizeof scratch; i++)
+        wrong += scratch[i] != (i < used ? 0 : '?');
     key("the list's length", n << 32, answer);
-    key("the list", 0, memcmp(out, lines, n) != 0);
+    key("the list, and no byte behind it", 0, memcmp(out, wanted, sizeof out) != 0);
+    key("zeros in the scratch that it needs, and no byte behind them", 0, wrong);
 }
 
 /* 02 (vi): GAATTC has three repeats: AT, AATT and GAATTC */

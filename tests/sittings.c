@@ -12,7 +12,7 @@
 
 enum { ALL_A, AT, FIBONACCI, THUE_MORSE, RANDOM, WORDS };
 
-/* the Fibonacci word over A and T or, for an inverted record, over AT and CG: each has as many repeats as it can */
+/* the Fibonacci word over A and T or, for an inverted record, over AT and CG: each has about as many repeats as letters */
 static const char *fibonacci(unsigned reading)
 {
     static char words[READINGS][2 * MODEL_MOST];

@@ -2,3 +2,4 @@
 pub mod Repeats
 pub mod Without
 pub mod Told
+pub mod Empty

@@ -34,7 +34,7 @@ module _ {b : Word} (g : Good b) (inverted : readingIn b ≡ 1) where
   inner-spelt (x ∷ y ∷ w) p h e = let z : _≡_ {A = ℕ} 0 1 = cc in omega arith
 
   -- row 0 is no repeat's inner row
-  pub inner-row : (r : ℕ) → 2 ≤ r → usedIn b r ≡ true → innerIn b r ≡ 0 → ⊥
-  inner-row r l u e =
+  pub inner-not-imaginary : (r : ℕ) → 2 ≤ r → usedIn b r ≡ true → innerIn b r ≡ 0 → ⊥
+  inner-not-imaginary r l u e =
       let d = word-row (covers g) r u l in
       inner-spelt (d .0) (d .2) (d .3) (ap innerOf (sym (d .1)) ∙ sym (g .table .inner-is r u .1) ∙ ap (nodeIn b) e ∙ covers g .row-zero .1)

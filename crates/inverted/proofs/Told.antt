@@ -67,23 +67,23 @@ module _ {b : Word} (g : Good b) (v : ℕ) (small : v < 65536) where
   unfolding storeSize
   header = omega (arith, g .sized .long-enough)
 
-  new-reading : readingIn changed ≡ v
+  pub new-reading : readingIn changed ≡ v
   unfolding readingIn
   new-reading = cell-set b 0 11 v (omega (arith, header)) (omega arith) small 0 11 (omega arith)
 
-  same-cell : (r f : ℕ) → f < 11 → cell changed r f ≡ cell b r f
+  pub same-cell : (r f : ℕ) → f < 11 → cell changed r f ≡ cell b r f
   same-cell r f l = cell-set b 0 11 v (omega (arith, header)) (omega arith) small r f (omega arith) ∙ cc (ne-eqb 11 f (λ e. omega arith))
 
-  same-capacity : capacityIn changed ≡ capacityIn b
+  pub same-capacity : capacityIn changed ≡ capacityIn b
   unfolding capacityIn
   same-capacity = same-cell 0 8 (omega arith)
 
-  same-used : (r : ℕ) → usedIn changed r ≡ usedIn b r
+  pub same-used : (r : ℕ) → usedIn changed r ≡ usedIn b r
   unfolding usedIn rankIn countIn
   same-used r =
       ap₂ (λ (k : ℕ) (t : Bool). ltb r 2 || (ltb r (k + 2) && t)) same-capacity (ap₂ (λ (i n : ℕ). ltb i n) (same-cell r 9 (omega arith)) (same-cell 0 10 (omega arith)))
 
-  same-letters : lettersIn changed ≡ lettersIn b
+  pub same-letters : lettersIn changed ≡ lettersIn b
   unfolding lettersIn sizeIn writes
   same-letters =
       ap₂ (λ (n k : ℕ). take n (drop (lettersAt k) changed)) (same-cell 0 9 (omega arith)) same-capacity

@@ -59,6 +59,23 @@ pub record KnownAnswer : Type 0 where
   pub query : Query
   pub known : Answer
 
+-- a line whose key holds at every capacity from the given one on
+abbrev pub from : (ℕ → ℕ) → ℕ → Word → Query → Answer → KnownAnswer
+from rule least letters query known = record { rule = rule; letters = letters; least = least; most = 1024; query = query; known = known }
+
+-- the four letters
+abbrev pub A : ℕ
+A = 65
+
+abbrev pub C : ℕ
+C = 67
+
+abbrev pub G : ℕ
+G = 71
+
+abbrev pub T : ℕ
+T = 84
+
 -- the answer is right at every capacity of its line
 abbrev pub Right : KnownAnswer → Type 0
 Right x = (k : ℕ) → x .least ≤ k → k ≤ x .most → answer (x .rule) k (x .letters) (x .query) ≡ x .known

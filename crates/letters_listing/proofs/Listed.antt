@@ -9,7 +9,7 @@ use Rattle.palindromes.specs.Word.{Word}
 use Rattle.palindromes.specs.Palindrome.{plain}
 use Rattle.palindromes.specs.Reading.{ruleIn}
 use Rattle.palindromes.specs.Bed.{isIdentifier, listing}
-use Rattle.palindromes.proofs.Readings.{plain-rule}
+use Rattle.palindromes.proofs.Readings.{rule-of-plain}
 use Rattle.store.specs.Layout.{sizeIn, lettersIn}
 use Rattle.store.specs.Good.{ruleOf}
 use Rattle.store.proofs.Sizes.{letters-length}
@@ -21,7 +21,7 @@ module _ {b w : Word} (f : Filled b w) (few : length w ≤ 1024) where
   filled-marks = omega (arith, letters-length (f .good .sized), ap length (f .letters), few)
 
   pub filled-listing : (name : Word) → listing (ruleOf b) name (lettersIn b) ≡ listing plain name w
-  filled-listing name = ap₂ (λ (σ : ℕ → ℕ) (s : Word). listing σ name s) (ap ruleIn (f .reading) ∙ plain-rule) (f .letters)
+  filled-listing name = ap₂ (λ (σ : ℕ → ℕ) (s : Word). listing σ name s) (ap ruleIn (f .reading) ∙ rule-of-plain) (f .letters)
 
   pub filled-lines : (name : Word) {m : ℕ} → isIdentifier name ≡ true → 46080 ≤ m → length (listing (ruleOf b) name (lettersIn b)) ≤ m
   filled-lines name h l = omega (arith, ap length (filled-listing name), listing-most plain name w h (omega arith), few)

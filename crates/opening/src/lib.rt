@@ -60,8 +60,8 @@ pub fn open(b: &mut [u8], reading: Reading, capacity: usize)
     requires { ⌜ (1 ≤ capacity) × (capacity ≤ 1024) × (storeSize capacity ≤ length (now b)) ⌝ }
     ensures { λ _. ⌜ now (b .exit) ≡ opened (readingNumber (wayOf reading)) capacity (now (b .entry)) ⌝ }
 {
-    let way = reading_number(reading);
+    let stored = reading_number(reading);
     bytes::clear(b, 24 * (capacity + 2) + capacity);
-    head(b, way, capacity);
+    head(b, stored, capacity);
     number(b, capacity);
 }

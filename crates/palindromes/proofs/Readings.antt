@@ -1,5 +1,5 @@
--- What is asked of the partner rules, of either reading: each undoes itself, and the partner of a letter is a letter. Here alone the rules are looked into. And what is
--- so of inverted records alone: no letter is its own partner, so that a repeat has an even length and no single letter is one. Rests on `letter-cases`.
+-- What is asked of the partner rules, of either reading: each undoes itself, the partner of a byte is a byte, and that of a letter a letter. And what is so of inverted records alone: no
+-- letter is its own partner, so that a repeat has an even length and no single letter is one. Rests on the four letters (`Letters`) and on the letters that face each other (`symmetric-at`).
 use Prim.Native.Nat.{ℕ, suc, _+_, _-_, _/_, _%_, _<_}
 use native.Mathlib.Decide.{decLt}
 use native.Mathlib.Omega.{arith}
@@ -28,18 +28,6 @@ complement-inverse x = of (eqb x 65) (eqb x 84) (eqb x 67) (eqb x 71) refl refl 
     of false false false true e e₁ e₂ e₃ = sym (eqb-true x 71 e₃)
     of false false false false e e₁ e₂ e₃ = cc (e, e₁, e₂, e₃)
 
--- a byte's partner is a byte
-pub complement-byte : (x : ℕ) → x < 256 → complement x < 256
-unfolding complement
-complement-byte x h = of (eqb x 65) (eqb x 84) (eqb x 67) (eqb x 71)
-  where
-    of : (s t u v : Bool) → cond s 84 (cond t 65 (cond u 71 (cond v 67 x))) < 256
-    of true t u v = omega arith
-    of false true u v = omega arith
-    of false false true v = omega arith
-    of false false false true = omega arith
-    of false false false false = h
-
 -- the rule of each reading, by its number
 pub rule-plain : (m : ℕ) → eqb m 1 ≡ false → (x : ℕ) → ruleIn m x ≡ x
 unfolding ruleIn
@@ -50,9 +38,9 @@ unfolding ruleIn
 rule-inverted m e x = ap (λ (t : Bool). cond t (complement x) x) e
 
 -- so that of a plain record is the plain rule
-pub plain-rule : ruleIn 0 ≡ plain
+pub rule-of-plain : ruleIn 0 ≡ plain
 unfolding ruleIn
-plain-rule = refl
+rule-of-plain = refl
 
 -- so the rule of either reading undoes itself
 pub rule-inverse : (m : ℕ) → SelfInverse (ruleIn m)
@@ -62,6 +50,19 @@ rule-inverse m x = of (eqb m 1)
     of : (t : Bool) → cond t (complement (cond t (complement x) x)) (cond t (complement x) x) ≡ x
     of true = complement-inverse x
     of false = refl
+
+-- the partner of a byte is a byte
+pub rule-byte : (m x : ℕ) → x < 256 → ruleIn m x < 256
+unfolding ruleIn complement
+rule-byte m x h = of (eqb m 1) (eqb x 65) (eqb x 84) (eqb x 67) (eqb x 71)
+  where
+    of : (r s t u v : Bool) → cond r (cond s 84 (cond t 65 (cond u 71 (cond v 67 x)))) x < 256
+    of true true t u v = omega arith
+    of true false true u v = omega arith
+    of true false false true v = omega arith
+    of true false false false true = omega arith
+    of true false false false false = h
+    of false s t u v = h
 
 -- and the partner of a letter is a letter, so that a record is one of letters from both ends
 pub rule-letter : (m c : ℕ) → isLetter c ≡ true → isLetter (ruleIn m c) ≡ true

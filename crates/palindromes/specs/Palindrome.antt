@@ -24,7 +24,7 @@ Symmetric σ w = mirror σ w ≡ w
 unfoldable pub isSymmetric : (ℕ → ℕ) → Word → Bool
 isSymmetric σ w = sameWord (mirror σ w) w
 
--- 01 "mirror repeat": non-empty and equal to its own reversal, single letters among them; 001 section 1.1 "we do not count ε as a palindrome"
+-- 01 "mirror repeat": non-empty and equal to its own reversal, single letters among them where the rule is plain; 001 section 1.1 "we do not count ε as a palindrome"
 pub record Palindrome (σ : ℕ → ℕ) (w : Word) : Type 0 where
   pub non-empty : w ≡ [] → ⊥
   pub symmetric : Symmetric σ w

@@ -1,5 +1,5 @@
 -- A table of all byte values: what a rule gives at each number below 256, in order, is the rule at every entry. The constant table of the code is such a list, which antt computes entry
--- by entry. Assumes nothing.
+-- by entry. And of a table of partners: each undoes itself, and letters go to letters, by the laws of the rules.
 use Prim.Native.Nat.{ℕ, zero, suc, _+_, _<_}
 use native.Mathlib.Nat.{add-zero, zero-add, add-suc, suc-add, le-of-suc-le-suc, not-suc-le-zero}
 use mathlib.Core.Path.{_≡_, sym, ap, _∙_}
@@ -7,9 +7,10 @@ use mathlib.Core.Bool.{true}
 use mathlib.Core.List.{List, [], _∷_}
 use lib.ListN.{getD}
 use Rattle.palindromes.specs.Word.{isLetter}
-use Rattle.palindromes.specs.Reading.{complement, ruleIn}
+use Rattle.palindromes.specs.Reading.{ruleIn}
 use Rattle.palindromes.proofs.Letters.{letter-byte}
-use Rattle.palindromes.proofs.Readings.{complement-inverse, complement-byte, rule-letter}
+use Rattle.palindromes.proofs.Readings.{rule-inverse, rule-byte, rule-letter}
+use Rattle.partners.specs.Table.{PartnersIn}
 
 module _ (f : ℕ → ℕ) where
   -- what the rule gives at n numbers from i on
@@ -27,16 +28,13 @@ module _ (f : ℕ → ℕ) where
   pub entry-at : (k : ℕ) → k < 256 → getD (entriesFrom 0 256) k 0 ≡ f k
   entry-at k h = entry-from 256 0 k h ∙ ap f (zero-add k)
 
--- ---- the table of inverted records
+-- ---- a table of partners, of either reading
 
-abbrev pub partners : List ℕ
-partners = entriesFrom complement 0 256
+module _ (m : ℕ) (t : List ℕ) (h : PartnersIn m t) where
+  -- each entry's partner has the entry's number as its partner
+  pub partner-undone : (c : ℕ) → c < 256 → getD t (getD t c 0) 0 ≡ c
+  partner-undone c l = ap (λ (x : ℕ). getD t x 0) (h c l) ∙ h (ruleIn m c) (rule-byte m c l) ∙ rule-inverse m c
 
--- each entry's partner has the entry's number as its partner
-pub partner-undone : (k : ℕ) → k < 256 → getD partners (getD partners k 0) 0 ≡ k
-partner-undone k h = ap (λ (x : ℕ). getD partners x 0) (entry-at complement k h) ∙ entry-at complement (complement k) (complement-byte k h) ∙ complement-inverse k
-
--- and letters go to letters
-pub partner-letter : (k : ℕ) → isLetter k ≡ true → isLetter (getD partners k 0) ≡ true
-unfolding ruleIn
-partner-letter k h = rw (entry-at complement k (letter-byte k h)) (rule-letter 1 k h)
+  -- and letters go to letters
+  pub partner-letter : (c : ℕ) → isLetter c ≡ true → isLetter (getD t c 0) ≡ true
+  partner-letter c l = rw (h c (letter-byte c l)) (rule-letter m c l)

@@ -272,7 +272,7 @@ fn entry(c: u8) -> u8
     PARTNERS[c as usize]
 }
 
-// The partner of a byte in a reading, for what is asked once a call.
+// The partner of a byte in a reading, for what is asked a few times a call.
 pub fn partner(reading: usize, c: u8) -> u8
     ensures { λ r. ⌜ r ≡ ruleIn reading c ⌝ }
 {

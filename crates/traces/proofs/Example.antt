@@ -10,7 +10,7 @@ use lib.Dec.{ltb}
 use lib.ListN.{length, getD, replicate, length-replicate}
 use Rattle.palindromes.specs.Word.{Word, isLetter, allLetters, sameWord}
 use Rattle.palindromes.specs.Palindrome.{mirror, isSymmetric, Palindrome}
-use Rattle.palindromes.specs.Reading.{asPlain, readingNumber, ruleIn}
+use Rattle.palindromes.specs.Reading.{Reading, asPlain, readingNumber, ruleIn}
 use Rattle.palindromes.specs.Place.{Stands, startsWith, placesFrom, places, frequency, stands, standsOnce}
 use Rattle.palindromes.specs.Record.{longestSuffix}
 use Rattle.palindromes.specs.End.{atLeft, atRight, added, removed, withoutFirst, withoutLast, longestAt}
@@ -49,28 +49,45 @@ room : storeSize 3 ≤ length sevens
 unfolding sevens storeSize
 room = omega (arith, length-replicate {A = ℕ} 400 7)
 
-abbrev opened : Outcome
-opened = outcome (opening asPlain 3) sevens nothing
+-- opened in either reading, it comes to its outcome and answers 0
+module _ (way : Reading) where
+  abbrev pub opened : Outcome
+  opened = outcome (opening way 3) sevens nothing
 
-accepted-opening : outcome (opening asPlain 3) sevens nothing ≡ acceptedOutcome (opening asPlain 3) sevens nothing
-accepted-opening = carried-out (opening asPlain 3) sevens nothing (opening-accepted sevens nothing asPlain 3 refl room)
+  accepted-opening : outcome (opening way 3) sevens nothing ≡ acceptedOutcome (opening way 3) sevens nothing
+  accepted-opening = carried-out (opening way 3) sevens nothing (opening-accepted sevens nothing way 3 refl room)
 
-promise : OpeningPromise asPlain 3 sevens (packed (opened .reply)) (opened .store)
-unfolding acceptedOutcome changed
-promise = record { left = record { reply = refl; store = refl; lent = sym (ap (λ (o : Outcome). o .lent) accepted-opening) } }
+  pub promise : OpeningPromise way 3 sevens (packed (opened .reply)) (opened .store)
+  unfolding acceptedOutcome changed
+  promise = record { left = record { reply = refl; store = refl; lent = sym (ap (λ (o : Outcome). o .lent) accepted-opening) } }
 
-answers-zero : refusalIn (packed (opened .reply)) ≡ 0
-unfolding unpacked acceptedOutcome changed accepted
-answers-zero = ap (λ r. r .number) (opening-told {l = nothing} promise refl .reply ∙ ap (λ (o : Outcome). o .reply) accepted-opening)
+  pub answers-zero : refusalIn (packed (opened .reply)) ≡ 0
+  unfolding unpacked acceptedOutcome changed accepted
+  answers-zero = ap (λ r. r .number) (opening-told {l = nothing} promise refl .reply ∙ ap (λ (o : Outcome). o .reply) accepted-opening)
 
--- ---- the calls
+  abbrev pub startIn : Word
+  startIn = opened .store
+
+  -- a list with one call more, which comes to its outcome
+  abbrev pub moreIn : List Step → Call → List Step
+  moreIn xs call = stepOf call (storeAfter startIn xs) nothing ∷ xs
+
+  pub one-more-in : {xs : List Step} → Run startIn xs → (call : Call) → MayStand call (storeAfter startIn xs) nothing → Run startIn (moreIn xs call)
+  one-more-in r call h = goes-on way 3 sevens all-bytes (packed (opened .reply)) startIn promise answers-zero r call nothing h
+
+  pub claims-of : {xs : List Step} → Run startIn xs → Claims (readingNumber way) 3 startIn xs
+  claims-of r = every-list way 3 sevens all-bytes (packed (opened .reply)) startIn promise answers-zero r
+
+  pub stays-good : {xs : List Step} → Run startIn xs → Good (storeAfter startIn xs)
+  stays-good r = always-good way 3 sevens all-bytes (packed (opened .reply)) startIn promise answers-zero r
+
+-- ---- the calls, on a plain record
 
 abbrev start : Word
-start = opened .store
+start = startIn asPlain
 
--- a list with one call more, which comes to its outcome
 abbrev more : List Step → Call → List Step
-more xs call = stepOf call (storeAfter start xs) nothing ∷ xs
+more = moreIn asPlain
 
 pub with-G : List Step
 with-G = more [] (add atLeft 71)
@@ -110,7 +127,7 @@ zero-refused : (b : Word) → refusal (ruleOf b) (viewIn b nothing) (opening asP
 zero-refused b z = omega (arith, opening-capacity b nothing asPlain 0 refl)
 
 one-more : {xs : List Step} → Run start xs → (call : Call) → MayStand call (storeAfter start xs) nothing → Run start (more xs call)
-one-more r call h = goes-on asPlain 3 sevens all-bytes (packed (opened .reply)) start promise answers-zero r call nothing h
+one-more r call h = one-more-in asPlain r call h
 
 run-to-CA : Run start with-CA
 unfolding with-CA with-A G-gone with-G
@@ -128,7 +145,7 @@ a-run = one-more (one-more (one-more run-to-row (add atRight 67) tt) (add atLeft
 
 pub its-claims : Claims 0 3 start calls
 unfolding readingNumber
-its-claims = every-list asPlain 3 sevens all-bytes (packed (opened .reply)) start promise answers-zero a-run
+its-claims = claims-of asPlain a-run
 
 -- ---- the letters, from the arguments alone
 
@@ -305,11 +322,11 @@ longer = one-more a-run (add atRight 67) tt
 first-accepted : refusalIn (first .answer) ≡ 0
 unfolding EachCall isLetter unpacked readingNumber
 first-accepted =
-    let claims = every-list asPlain 3 sevens all-bytes (packed (opened .reply)) start promise answers-zero longer in
+    let claims = claims-of asPlain longer in
     claims .each .0 .addition atRight 67 refl .accepted-if (rw letters-left refl)
 
 pub taken-back : Undone end 67 first second
 unfolding storeAfter
 taken-back =
     its-claims .undone atRight 67 first second refl (keeps-contract (add atRight 67) end nothing still-good tt) first-accepted refl
-    (keeps-contract (remove atRight) (first .store) nothing (always-good asPlain 3 sevens all-bytes (packed (opened .reply)) start promise answers-zero longer) tt)
+    (keeps-contract (remove atRight) (first .store) nothing (stays-good asPlain longer) tt)

@@ -8,3 +8,4 @@ pub mod Undone
 pub mod Theorem
 pub mod Possible
 pub mod Example
+pub mod ExampleInverted

@@ -44,6 +44,7 @@ fn section_2_2_of_004() {
 
 fn inverted_of_004() {
     show::title(b"004 inverted");
+    // the reading of inverted records is 1
     let rule = partners::table(1);
     show::list(&rule, b"ACCTGCAGGT");
     show::list(&rule, b"AGTCT");

@@ -18,7 +18,7 @@ use Rattle.walk.specs.declared.Walked.the-variants.{At, Nothing}
 abbrev pub facesAt : Word → Word → ℕ → ℕ → ℕ → Bool
 facesAt b t k want r = leb (cell b r 0) k && eqb (getD t (k - cell b r 0) 0) want
 
--- the letter that must stand before a palindrome for `want`, the partner of d, to be read there: at the left what is read is the partner of what stands
+-- the letter that must stand before a palindrome for `want`, the partner of d, to be read there: at the left what is read is the partner of what stands, so that d itself must
 abbrev pub facing : End → ℕ → ℕ → ℕ
 facing atRight d want = want
 facing atLeft d want = d

@@ -27,16 +27,16 @@ pub enum Walked {
     Nothing,
 }
 
-// Whether the letter just before row's palindrome, as it stands, is `want`, the palindrome ending the
-// first k letters.
-pub fn faces(b: &[u8], f: Frame, side: Side, k: usize, row: usize, want: u8) -> bool
+// Whether the letter just before row's palindrome, as it stands, is c, the palindrome ending the first
+// k letters.
+pub fn faces(b: &[u8], f: Frame, side: Side, k: usize, row: usize, c: u8) -> bool
     requires { ⌜ Within (now b) f k ⌝ }
     requires { ⌜ (24 * row + 24 ≤ length (now b)) × (0 < cell (now b) row 0) ⌝ }
-    ensures { λ r. ⌜ r ≡ facesAt (now (b .entry)) (standingIn (now (b .entry)) f side) k want row ⌝ }
+    ensures { λ r. ⌜ r ≡ facesAt (now (b .entry)) (standingIn (now (b .entry)) f side) k c row ⌝ }
 {
     let place = lengths::before(k, rows::length_of(b, row));
     match place {
-        Place::At(i) => frame::standing(b, f, side, i) == want,
+        Place::At(i) => frame::standing(b, f, side, i) == c,
         Place::Outside => false,
     }
 }

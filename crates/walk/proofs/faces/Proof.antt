@@ -55,13 +55,13 @@ standing-requires c κs =
 returns : tie.Need-returns
 returns c =
     let a = c .before .before .before .before .before .before .before .args in
-    there (a .b .now) (standingIn (a .b .now) (a .f) (a .side)) (a .k) (a .want) (a .row) (c .before .before .place .given .0 .0) (c .standing .result)
+    there (a .b .now) (standingIn (a .b .now) (a .f) (a .side)) (a .k) (a .c) (a .row) (c .before .before .place .given .0 .0) (c .standing .result)
     (sym (place-is (c .before .before .before .before)) ∙ c .before .before .place .given .1) (c .standing .ensures)
 
 returns-2 : tie.Need-returns-2
 returns-2 c =
     let a = c .before .before .before .before .before .args in
-    nowhere (a .b .now) (standingIn (a .b .now) (a .f) (a .side)) (a .k) (a .want) (a .row) (sym (place-is (c .before .before)) ∙ c .enum-told .given .1)
+    nowhere (a .b .now) (standingIn (a .b .now) (a .f) (a .side)) (a .k) (a .c) (a .row) (sym (place-is (c .before .before)) ∙ c .enum-told .given .1)
 
 pub faces-spec : {M : Type 1} → statement M
 faces-spec =
