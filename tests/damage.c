@@ -115,7 +115,7 @@ static void one_kind(const damage *d, unsigned reading, int rounds)
 int main(int argc, char **argv)
 {
     random_seed(argc > 1 ? argv[1] : NULL, 20251116);
-    int rounds = argc > 2 ? atoi(argv[2]) : 200;
+    int rounds = argc > 2 ? atoi(argv[2]) : 300;
     setvbuf(stdout, NULL, _IOLBF, 0);
     for (size_t i = 0; i < damage_kinds; i++)
         for (unsigned reading = PLAIN; reading < READINGS; reading++) one_kind(&damages[i], reading, rounds);

@@ -1,2 +1,3 @@
-// What is so of inverted records alone, and of records without a repeat, as laws in proofs/. There is
-// no code here: the laws speak of good stores and of what their calls come to.
+// What is so of inverted records alone, of records without a repeat, and of a store whose reading is
+// changed, as laws in proofs/. There is no code here: the laws speak of good stores and of what their
+// calls come to.

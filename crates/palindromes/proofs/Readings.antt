@@ -82,7 +82,7 @@ number-below asInverted = omega arith
 -- ---- inverted records
 
 -- no letter is its own partner
-pub no-letter-alone : (m c : ℕ) → eqb m 1 ≡ true → isLetter c ≡ true → ruleIn m c ≡ c → ⊥
+no-letter-alone : (m c : ℕ) → eqb m 1 ≡ true → isLetter c ≡ true → ruleIn m c ≡ c → ⊥
 unfolding complement
 no-letter-alone m c e h f = letter-cases (λ (x : ℕ). complement x ≡ x → ⊥) (λ g. omega arith) (λ g. omega arith) (λ g. omega arith) (λ g. omega arith) c h (sym (rule-inverted m e c) ∙ f)
 

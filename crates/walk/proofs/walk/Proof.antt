@@ -7,13 +7,13 @@ use mathlib.Core.Path.{_≡_, refl, sym, ap, _∙_, subst}
 use mathlib.Core.Bool.{Bool, true, false}
 use Rattle.palindromes.specs.Word.{Word}
 use Rattle.store.specs.Layout.{cell, linkIn}
+use Rattle.store.specs.Side.{endOf}
 use Rattle.walk.specs.declared.Walked.{Walked}
 use Rattle.walk.specs.declared.Walked.the-variants.{At, Nothing}
 use Rattle.walk.specs.Frame.{standingIn, seenIn, partnerIn}
 use Rattle.walk.specs.Walk.{facesAt, facing, Chain, Meets, letter, nothing, here, onward}
-use Rattle.store.specs.Side.{endOf}
-use Rattle.walk.proofs.Facing.{facing-read}
 use Rattle.walk.proofs.Chains.{chain-fits, chain-next}
+use Rattle.walk.proofs.Facing.{facing-read}
 use Rattle.walk.proofs.walk.Statement.{statement}
 use Rattle.walk.proofs.walk.Tie as tie
 
@@ -51,8 +51,12 @@ faces-requires c κs =
     let h = c .before .loop .inv .chain in
     (c .before .before .before .before .pre .0, (chain-fits h, omega (arith, chain-next h (c .loop-test .taken) .0)))
 
--- what a comparison at a row tells
-compared : (c : tie.After-faces Inv-loop μ-loop) → c .faces .result ≡ facesAt (from-faces c .args .b .now) (seenIn (from-faces c .args .b .now) (from-faces c .args .f) (from-faces c .args .side)) (from-faces c .args .k) (partnerIn (from-faces c .args .f) (from-faces c .args .d)) (c .before .before .loop .row)
+-- the test says whether the partner of d is read before the row's palindrome
+abbrev Tells : tie.Start Inv-loop μ-loop → Bool → ℕ → Type 0
+Tells s x row = let a = s .args in x ≡ facesAt (a .b .now) (seenIn (a .b .now) (a .f) (a .side)) (a .k) (partnerIn (a .f) (a .d)) row
+
+-- and so does the comparison with the letter that stands there
+compared : (c : tie.After-faces Inv-loop μ-loop) → Tells (from-faces c) (c .faces .result) (c .before .before .loop .row)
 compared c =
     let s = from-faces c in
     let a = s .args in
