@@ -9,7 +9,7 @@ ghost use mathlib.Core.Path.{_≡_};
 ghost use mathlib.Core.Bool.{true};
 ghost use Prim.Native.Nat.{_<_};
 ghost use Rattle.palindromes.specs.Word.{isLetter};
-ghost use Rattle.store.specs.Good.{Good};
+ghost use Rattle.store.specs.Good.{ruleOf, Good};
 ghost use Rattle.store.specs.Layout.{capacityIn, sizeIn};
 ghost use Rattle.store.specs.Side.{endOf};
 ghost use Rattle.transitions.specs.Addition.{afterAddition};
@@ -30,14 +30,14 @@ fn add_known(b: &mut [u8], side: Side, c: u8, q: usize)
     ends::settle(b, side, f.n + 1, q, opposite);
 }
 
-// Adds the letter c at a side of a record that is not full.
-pub fn add(b: &mut [u8], side: Side, c: u8) -> Added
+// Adds the letter c, whose partner is p, at a side of a record that is not full.
+pub fn add(b: &mut [u8], side: Side, c: u8, p: u8) -> Added
     requires { ⌜ Good (now b) ⌝ }
-    requires { ⌜ isLetter c ≡ true ⌝ }
+    requires { ⌜ (isLetter c ≡ true) × (p ≡ ruleOf (now b) c) ⌝ }
     requires { ⌜ sizeIn (now b) < capacityIn (now b) ⌝ }
     ensures { λ r. ⌜ Adds (endOf side) c (now (b .entry)) (now (b .exit)) r ⌝ }
 {
-    let growth = growth::find(b, side, c);
+    let growth = growth::find(b, side, c, p);
     match growth {
         Growth::Fresh(row) => Added::New(insertion::insert(b, side, c, row)),
         Growth::Stood(q) => {

@@ -9,6 +9,7 @@ ghost use Rattle.outcome.specs.Promise.{nothing, Promise, FreeRow};
 ghost use Rattle.outcome.specs.Verdict.{Verdict};
 use outcome::answers;
 use outcome::refuse;
+use partners::partner;
 use store::header;
 use store::letters::Side;
 
@@ -53,7 +54,9 @@ fn add_letter(store: &mut [u8], side: Side, letter: u64) -> u64
     if number != 0 {
         return refuse(number);
     }
-    answers::answer_added(addition::add(store, side, letter as u8))
+    let c = letter as u8;
+    let p = partner(header::reading(store), c);
+    answers::answer_added(addition::add(store, side, c, p))
 }
 
 // Adds a letter at the left end.

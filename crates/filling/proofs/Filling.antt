@@ -1,52 +1,65 @@
--- A record that is filled from a text: each addition leaves one letter more, and at the end all stand.
--- Rests on the laws of opening and addition (`transitions`). Assumes nothing.
+-- Letters that join one by one: what stands after the first i of them, and the next. Rests on the laws of additions one after the other (`Turned` of transitions). Assumes nothing.
 use Prim.Native.Nat.{ℕ, _+_, _≤_, _<_}
 use native.Mathlib.Omega.{arith}
 use native.Mathlib.Numerals.{add-one}
-use mathlib.Core.Path.{_≡_, ap, _∙_}
+use mathlib.Core.Path.{_≡_, refl, sym, ap, _∙_}
 use mathlib.Core.Bool.{true}
-use mathlib.Core.List.{[]}
-use lib.ListN.{length, take, getD}
+use mathlib.Core.List.{List, []}
+use lib.ListN.{length, take, drop, getD, length-append, take-append-drop}
 use lib.Seq.{take-suc, take-length, length-take-le}
 use Rattle.palindromes.specs.Word.{Word, isLetter, allLetters}
-use Rattle.palindromes.specs.Reading.{asPlain, readingNumber}
-use Rattle.palindromes.specs.End.{atRight, added}
+use Rattle.palindromes.specs.Reading.{asPlain, readingNumber, ruleIn}
+use Rattle.palindromes.specs.End.{atRight}
 use Rattle.palindromes.specs.Refusal.{storeSize}
-use Rattle.palindromes.proofs.Letters.{letter-of}
-use Rattle.store.specs.Layout.{capacityIn, sizeIn}
+use Rattle.palindromes.proofs.Letters.{letter-of, letter-byte}
+use Rattle.palindromes.proofs.Readings.{number-below}
+use Rattle.partners.specs.Table.{PartnersIn}
+use Rattle.store.specs.Layout.{capacityIn, sizeIn, readingIn}
+use Rattle.store.specs.Good.{ruleOf, Good}
+use Rattle.store.proofs.Sizes.{letters-length}
 use Rattle.transitions.specs.Opening.{opened}
 use Rattle.transitions.specs.Addition.{afterAddition}
-use Rattle.transitions.proofs.Opening.{opened-capacity, opened-reading, opened-letters, opened-good}
-use Rattle.store.proofs.Sizes.{letters-length}
-use Rattle.transitions.proofs.Added.{addition}
-use Rattle.filling.specs.Filled.{Filled}
+use Rattle.transitions.specs.Turning.{afterAdditions}
+use Rattle.transitions.proofs.Letters.{letters-piece}
+use Rattle.transitions.proofs.Turned.{Filled, additions, additions-more, can-take}
 
--- a record that was just opened holds no letter
-pub filled-none : (b : Word) → 49408 ≤ length b → Filled (opened (readingNumber asPlain) 1024 b) []
-unfolding storeSize readingNumber
-filled-none b l =
-    record {
-      good = opened-good 0 1024 b (omega arith) (omega arith) (omega arith) (omega arith);
-      reading = opened-reading 0 1024 b (omega arith) (omega arith) (omega arith);
-      room = opened-capacity 0 1024 b (omega arith) (omega arith) (omega arith);
-      letters = opened-letters 0 1024 b (omega arith) (omega arith) (omega arith);
-    }
+-- the first letters of a word of letters are letters
+letters-take : (i : ℕ) (w : Word) → allLetters w ≡ true → allLetters (take i w) ≡ true
+letters-take i w h = letters-piece (record { before = []; after = drop i w; whole = take-append-drop i w }) h
 
-module _ (b w : Word) (i : ℕ) (f : Filled b (take i w)) (h : i < length w) (all : allLetters w ≡ true) (few : length w ≤ 1024) where
-  -- the next letter is one, and has room
-  pub next-letter : isLetter (getD w i 0) ≡ true
-  next-letter = letter-of w i h all
+module _ (b w : Word) (g : Good b) (all : allLetters w ≡ true) (room : sizeIn b + length w ≤ capacityIn b) where
+  module _ (i : ℕ) (h : i ≤ length w) where
+    -- the store with the first i letters
+    abbrev partly : Word
+    partly = afterAdditions (take i w) b
 
-  pub next-room : sizeIn b < capacityIn b
-  next-room = omega (arith, letters-length (f .good .sized), ap length (f .letters), length-take-le i w (omega arith), f .room)
+    pub first-ones : Filled (take i w) b
+    first-ones = additions (take i w) g (letters-take i w all) (omega (arith, length-take-le i w h))
 
-  -- the letter joins those that stand
-  pub filled-more : Filled (afterAddition atRight (getD w i 0) b) (take (i + 1) w)
-  unfolding added
-  filled-more =
-      let a = addition atRight (f .good) next-letter next-room in
-      record { good = a .good; reading = a .reading ∙ f .reading; room = a .capacity ∙ f .room; letters = a .letters ∙ rw (f .letters, add-one i, take-suc w i 0 h) }
+    -- the next letter is one, and has room
+    pub next-letter : i < length w → isLetter (getD w i 0) ≡ true
+    next-letter l = letter-of w i l all
 
--- past the last letter all are there
-pub filled-all : (b w : Word) (i : ℕ) → Filled b (take i w) → i ≡ length w → Filled b w
-filled-all b w i f e = record { good = f .good; reading = f .reading; room = f .room; letters = f .letters ∙ rw (e, take-length w) }
+    pub next-room : i < length w → sizeIn partly < capacityIn partly
+    next-room l =
+        omega (arith, letters-length (first-ones .good .sized), simp length-append at (ap length (first-ones .letters)), letters-length (g .sized), length-take-le i w h, first-ones .capacity)
+
+    -- and has the partner that a table of the reading gives it
+    pub next-partner : i < length w → (m : ℕ) (t : List ℕ) → m ≡ readingIn b → PartnersIn m t → getD t (getD w i 0) 0 ≡ ruleOf partly (getD w i 0)
+    next-partner l m t e h = h (getD w i 0) (letter-byte (getD w i 0) (next-letter l)) ∙ ap (λ (r : ℕ). ruleIn r (getD w i 0)) (e ∙ sym (first-ones .reading))
+
+    -- it joins those before it
+    pub one-more : i < length w → afterAddition atRight (getD w i 0) partly ≡ afterAdditions (take (i + 1) w) b
+    one-more l = sym (additions-more (take i w) (getD w i 0) b) ∙ ap (λ (s : Word). afterAdditions s b) (rw (add-one i, take-suc w i 0 l) refl)
+
+-- past the last letter all have joined
+pub all-joined : (b w : Word) (i : ℕ) → i ≡ length w → afterAdditions (take i w) b ≡ afterAdditions w b
+all-joined b w i e = rw (e, take-length w) refl
+
+-- a store that is opened for a plain record with room for 1,024 letters takes as many
+pub takes : (b w : Word) → 49408 ≤ length b → allLetters w ≡ true → length w ≤ 1024 → {b′ : Word} → b′ ≡ opened (readingNumber asPlain) 1024 b
+    → Good b′ × (allLetters w ≡ true) × (sizeIn b′ + length w ≤ capacityIn b′)
+unfolding storeSize
+takes b w long all few e =
+    let h = can-take (readingNumber asPlain) 1024 b (number-below asPlain) (omega arith) (omega arith) long w few in
+    rw e (h .0, all, h .1)

@@ -1,23 +1,30 @@
-// Letters added at the right of an empty record with room for 1,024. Nobody else has the store
-// between two letters, so it is not tested again at each.
+// Letters added at the right of a good store, one after the other. Nobody else has the store between two
+// letters, so it is not tested again at each.
+use partners::partner_in;
+use partners::table;
+use store::header;
 use store::letters::Side;
 ghost use mathlib.Core.Path.{_≡_};
 ghost use mathlib.Core.Bool.{true};
-ghost use mathlib.Core.List.{[]};
-ghost use Prim.Native.Nat.{_≤_};
+ghost use Prim.Native.Nat.{_+_, _≤_};
 ghost use lib.ListN.{length};
 ghost use Rattle.palindromes.specs.Word.{allLetters};
-ghost use Rattle.filling.specs.Filled.{Filled};
+ghost use Rattle.store.specs.Good.{Good};
+ghost use Rattle.store.specs.Layout.{capacityIn, sizeIn};
+ghost use Rattle.transitions.specs.Turning.{afterAdditions};
 
-// Adds letters at the right of an empty record with room for 1,024.
+// Adds letters at the right of a record that has room for them. The table of partners is made once, and
+// not looked into the constant for each letter.
 pub fn fill(store: &mut [u8], letters: &[u8])
-    requires { ⌜ Filled (now store) [] ⌝ }
-    requires { ⌜ (allLetters (now letters) ≡ true) × (length (now letters) ≤ 1024) ⌝ }
-    ensures { λ _. ⌜ Filled (now (store .exit)) (now (letters .entry)) ⌝ }
+    requires { ⌜ Good (now store) ⌝ }
+    requires { ⌜ (allLetters (now letters) ≡ true) × (sizeIn (now store) + length (now letters) ≤ capacityIn (now store)) ⌝ }
+    ensures { λ _. ⌜ now (store .exit) ≡ afterAdditions (now (letters .entry)) (now (store .entry)) ⌝ }
 {
+    let partners = table(header::reading(store));
     let mut i = 0;
     while i < letters.len() {
-        addition::add(store, Side::Right, letters[i]);
+        let c = letters[i];
+        addition::add(store, Side::Right, c, partner_in(&partners, c));
         i += 1;
     }
 }

@@ -45,7 +45,7 @@ use Rattle.walk.proofs.Reading.{covers-read, read-length}
 use Rattle.transitions.specs.Rows.{rowOf}
 use Rattle.transitions.specs.Addition.{longestAfter, bringsIn}
 use Rattle.transitions.proofs.Rows.{covers, edges-end, row-of, row-of-empty, edge-row, length-row}
-use Rattle.growth.specs.Steps.{made, linkRow, Met, RowFor, StoodIs}
+use Rattle.growth.specs.Steps.{readAs, made, linkRow, Met, RowFor, StoodIs}
 
 -- ---- words
 
@@ -56,6 +56,15 @@ around-length σ d imaginary = refl
 around-length σ d (spelt w) =
     let k : suc (suc (length (w ++ (d ∷ [])))) ≡ suc (length w) + 2 = omega (arith, length-append w (d ∷ [])) in
     ap (λ (m : ℕ). predℤ (pos m)) k
+
+-- a letter and its partner, as they are read towards an end: the one is the letter read, and the other that one's partner
+pub read-letter : (b : Word) (e : End) (c p : ℕ) → p ≡ ruleOf b c → readAs e c p ≡ letterTowards (ruleOf b) e c
+read-letter b atRight c p h = refl
+read-letter b atLeft c p h = h
+
+pub read-partner : (b : Word) (e : End) (c p : ℕ) → p ≡ ruleOf b c → readAs e p c ≡ ruleOf b (readAs e c p)
+read-partner b atRight c p h = h
+read-partner b atLeft c p h = sym (ap (ruleOf b) h ∙ rule-inverse (readingIn b) c)
 
 -- a letter as it is read towards an end is a letter
 pub letter-read : (b : Word) (e : End) (c d : ℕ) → d ≡ letterTowards (ruleOf b) e c → isLetter c ≡ true → isLetter d ≡ true

@@ -3,7 +3,7 @@ use Prim.Native.Nat.{ℕ}
 use mathlib.Core.Path.{_≡_}
 use mathlib.Core.Bool.{true, false}
 use Rattle.palindromes.specs.Word.{Word}
-use Rattle.palindromes.specs.End.{End, atRight, letterAt}
+use Rattle.palindromes.specs.End.{End, atLeft, atRight, letterAt}
 use Rattle.palindromes.specs.Node.{spelt, lengthOf, linkOf, innerOf, around}
 use Rattle.store.specs.Layout.{usedIn}
 use Rattle.store.specs.Good.{ruleOf, nodeIn}
@@ -16,6 +16,11 @@ use Rattle.transitions.specs.Rows.{rowOf}
 use Rattle.transitions.specs.Addition.{longestAfter, bringsIn}
 use Rattle.growth.specs.declared.Growth.{Growth}
 use Rattle.growth.specs.declared.Growth.the-variants.{Fresh, Stood}
+
+-- the letter that is read next towards an end where c joins it, p being c's partner: at the left end letters are read as their partners
+abbrev pub readAs : End → (c p : ℕ) → ℕ
+readAs atRight c p = c
+readAs atLeft c p = p
 
 -- the word that the letter d makes around row u
 abbrev pub made : Word → (d u : ℕ) → Word

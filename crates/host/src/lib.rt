@@ -3,7 +3,7 @@
 ghost use Rattle.palindromes.specs.Reading.{asPlain, asInverted};
 ghost use Rattle.palindromes.specs.End.{atLeft, atRight};
 ghost use mathlib.Core.List.{[]};
-ghost use Rattle.palindromes.specs.Refusal.{add, remove, theLength, theCount, theLongest, theLongestAt, theLetter, theRow, spell, find, list};
+ghost use Rattle.palindromes.specs.Refusal.{add, remove, turn, theLength, theCount, theLongest, theLongestAt, theLetter, theRow, spell, find, list};
 ghost use Rattle.fasta_call.specs.Answer.{FastaPromise};
 ghost use Rattle.outcome.specs.Promise.{lending, nothing, Promise, OpeningPromise, FreeRow, Asked};
 
@@ -55,6 +55,22 @@ pub extern "C" fn mirror_remove_right(store: &mut [u8]) -> u64
     ensures { λ r. ⌜ Promise (remove atRight) (now (store .entry)) nothing r (now (store .exit)) nothing ⌝ }
 {
     removal_call::remove_right(store)
+}
+
+// Turns the record to the plain reading.
+#[no_mangle]
+pub extern "C" fn mirror_turn_plain(store: &mut [u8]) -> u64
+    ensures { λ r. ⌜ Promise (turn asPlain) (now (store .entry)) nothing r (now (store .exit)) nothing ⌝ }
+{
+    turn_call::turn_plain(store)
+}
+
+// Turns the record to the inverted reading.
+#[no_mangle]
+pub extern "C" fn mirror_turn_inverted(store: &mut [u8]) -> u64
+    ensures { λ r. ⌜ Promise (turn asInverted) (now (store .entry)) nothing r (now (store .exit)) nothing ⌝ }
+{
+    turn_call::turn_inverted(store)
 }
 
 // How many letters stand.

@@ -1,22 +1,30 @@
--- What a filled record lists is what its letters list, and has room in the buffers.
--- Rests on how long a list is (`bed`). Assumes nothing.
+-- A plain record that is made of letters: what it lists is what its letters list, and has room in the buffers.
+-- Rests on how long a list is (`bed`) and on records made from nothing (`Turned` of transitions). Assumes nothing.
 use Prim.Native.Nat.{ℕ, _*_, _≤_}
 use native.Mathlib.Omega.{arith}
 use mathlib.Core.Path.{_≡_, ap, ap₂, _∙_}
 use mathlib.Core.Bool.{true}
 use lib.ListN.{length}
-use Rattle.palindromes.specs.Word.{Word}
+use Rattle.palindromes.specs.Word.{Word, allLetters}
 use Rattle.palindromes.specs.Palindrome.{plain}
-use Rattle.palindromes.specs.Reading.{ruleIn}
+use Rattle.palindromes.specs.Reading.{asPlain, readingNumber, ruleIn}
 use Rattle.palindromes.specs.Bed.{isIdentifier, listing}
+use Rattle.palindromes.specs.Refusal.{storeSize}
 use Rattle.palindromes.proofs.Readings.{rule-of-plain}
 use Rattle.store.specs.Layout.{sizeIn, lettersIn}
 use Rattle.store.specs.Good.{ruleOf}
 use Rattle.store.proofs.Sizes.{letters-length}
 use Rattle.bed.proofs.Listing.{listing-most}
-use Rattle.filling.specs.Filled.{Filled}
+use Rattle.transitions.specs.Opening.{opened}
+use Rattle.transitions.specs.Turning.{afterAdditions}
+use Rattle.transitions.proofs.Turned.{Made, made}
 
-module _ {b w : Word} (f : Filled b w) (few : length w ≤ 1024) where
+-- a store that is opened for a plain record with room for 1,024 letters, and takes these
+pub record-of : (b w : Word) → 49408 ≤ length b → allLetters w ≡ true → length w ≤ 1024 → {b₁ b₂ : Word} → b₁ ≡ opened (readingNumber asPlain) 1024 b → b₂ ≡ afterAdditions w b₁ → Made 0 1024 w b b₂
+unfolding readingNumber storeSize
+record-of b w long all few e f = rw (f, e) (made 0 1024 b (omega arith) (omega arith) (omega arith) long w all few)
+
+module _ {b₀ b w : Word} (f : Made 0 1024 w b₀ b) (few : length w ≤ 1024) where
   pub filled-marks : 4 * sizeIn b ≤ 4096
   filled-marks = omega (arith, letters-length (f .good .sized), ap length (f .letters), few)
 

@@ -20,7 +20,7 @@ pub enum Reading {
 }
 
 // The number that stands for a reading in a store.
-fn reading_number(reading: Reading) -> usize
+pub fn reading_number(reading: Reading) -> usize
     ensures { λ r. ⌜ r ≡ readingNumber (wayOf reading) ⌝ }
 {
     match reading {

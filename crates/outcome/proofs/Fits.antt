@@ -11,7 +11,7 @@ use Rattle.palindromes.specs.Reading.{Reading}
 use Rattle.palindromes.specs.Record.{palindromes, count, least, longestPlace}
 use Rattle.palindromes.specs.End.{End, atLeft, atRight, letterAt}
 use Rattle.palindromes.specs.Node.{Node, imaginary, spelt, lengthOf, spellingOf}
-use Rattle.palindromes.specs.Refusal.{Question, theLength, theCount, theLongest, theLongestAt, theLetter, theRow, spell, find, list, Call, opening, add, remove, ask, refusal}
+use Rattle.palindromes.specs.Refusal.{Question, theLength, theCount, theLongest, theLongestAt, theLetter, theRow, spell, find, list, Call, opening, add, remove, turn, ask, refusal}
 use Rattle.palindromes.proofs.Tests.{both-true}
 use Rattle.palindromes.proofs.Order.{longest-length-fits, longest-place-is}
 use Rattle.palindromes.proofs.Palindromes.{count-length}
@@ -137,6 +137,7 @@ module _ (b : Word) (l : Lent) where
   accepted-fits (opening way k) g z = fits _ (omega arith) (omega arith) (omega arith)
   accepted-fits (add e c) g z = added-fits g e c l z
   accepted-fits (remove e) g z = removed-fits g e
+  accepted-fits (turn way) g z = fits _ (omega arith) (omega arith) (omega arith)
   accepted-fits (ask q) g z = answer-fits g q l z
 
   by-number : (call : Call) (n : ℕ) → n < 256 → (n ≡ 0 → Fits (acceptedOutcome call b l .reply)) → Fits (unlessRefused n call b l .reply)

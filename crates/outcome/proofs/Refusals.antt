@@ -12,7 +12,7 @@ use Rattle.palindromes.specs.Reading.{Reading}
 use Rattle.palindromes.specs.End.{End}
 use Rattle.palindromes.specs.Node.{spellingOf}
 use Rattle.palindromes.specs.Bed.{isIdentifier, listing}
-use Rattle.palindromes.specs.Refusal.{Question, theLength, theCount, theLongest, theLongestAt, theLetter, theRow, spell, find, list, View, questionFaults, Call, opening, add, remove, ask, fault, firstFault, isFree, spellingLength, storeSize, faults, refusal}
+use Rattle.palindromes.specs.Refusal.{Question, theLength, theCount, theLongest, theLongestAt, theLetter, theRow, spell, find, list, View, questionFaults, Call, opening, add, remove, turn, ask, fault, firstFault, isFree, spellingLength, storeSize, faults, refusal}
 use Rattle.palindromes.proofs.Tests.{both-true, false-not-true, non-empty-is}
 use Rattle.store.specs.Layout.{capacityIn, usedIn, lettersIn}
 use Rattle.store.specs.Good.{ruleOf, nodeIn}
@@ -69,6 +69,7 @@ unfolding refusal faults viewIn
 number-other b l (opening way k) = first-other _ (row 1 _ refl, (row 2 _ refl, tt))
 number-other b l (add e c) = first-other _ (good-store, (row 4 _ refl, (row 5 _ refl, tt)))
 number-other b l (remove e) = first-other _ (good-store, (row 6 _ refl, tt))
+number-other b l (turn way) = first-other _ (good-store, tt)
 number-other b l (ask q) = first-other _ (good-store, question-numbers _ _ q)
 
 -- ---- when a call is carried out
@@ -98,6 +99,11 @@ module _ (b : Word) (l : Lent) where
   pub remove-accepted : (e : End) → (lettersIn b ≡ [] → ⊥) → refusal (ruleOf b) (viewIn b l) (remove e) ≡ 0
   unfolding refusal faults questionFaults viewIn firstFault fault
   remove-accepted e h = rw (non-empty-is (lettersIn b) h)
+
+  -- a good store can be turned, whatever it holds
+  pub turn-accepted : (way : Reading) → refusal (ruleOf b) (viewIn b l) (turn way) ≡ 0
+  unfolding refusal faults viewIn firstFault fault
+  turn-accepted way = refl
 
   pub find-accepted : (w : Word) → (w ≡ [] → ⊥) → allLetters w ≡ true → refusal (ruleOf b) (viewIn b l) (ask (find w)) ≡ 0
   unfolding refusal faults questionFaults viewIn firstFault fault

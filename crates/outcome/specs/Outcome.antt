@@ -12,13 +12,14 @@ use Rattle.palindromes.specs.Record.{palindromes, count, longestLength, longest
 use Rattle.palindromes.specs.End.{letterAt}
 use Rattle.palindromes.specs.Node.{spelt, lengthOf, linkOf, innerOf, spellingOf}
 use Rattle.palindromes.specs.Bed.{listing}
-use Rattle.palindromes.specs.Refusal.{Question, theLength, theCount, theLongest, theLongestAt, theLetter, theRow, spell, find, list, Call, opening, add, remove, ask, View, refusal}
+use Rattle.palindromes.specs.Refusal.{Question, theLength, theCount, theLongest, theLongestAt, theLetter, theRow, spell, find, list, Call, opening, add, remove, turn, ask, View, refusal}
 use Rattle.store.specs.Layout.{capacityIn, usedIn, lettersIn}
 use Rattle.store.specs.Good.{ruleOf, nodeIn, Good}
 use Rattle.transitions.specs.Rows.{rowOf}
 use Rattle.transitions.specs.Opening.{opened}
 use Rattle.transitions.specs.Addition.{bringsIn, rowAfter, afterAddition}
 use Rattle.transitions.specs.Removal.{longestBefore, takesOut, afterRemoval}
+use Rattle.transitions.specs.Turning.{turned}
 use Rattle.outcome.specs.Reply.{Reply, refusedWith, accepted, Answer, answer, answered, twosComplement}
 use Rattle.outcome.specs.Answers.{addedOf, addedReply, removedOf, removedReply, foundOf, foundAnswer}
 
@@ -89,6 +90,7 @@ acceptedOutcome (opening way k) b l = changed (accepted false 0 0 0) (opened (re
 acceptedOutcome (add e c) b l = changed (addedReply (addedOf (bringsIn e c b) (rowAfter e c b))) (afterAddition e c b) l
 acceptedOutcome (remove e) b l =
     changed (removedReply (removedOf (takesOut e b) (letterAt e (lettersIn b)) (rowOf b (spelt (longestBefore e b))))) (afterRemoval e b) l
+acceptedOutcome (turn way) b l = changed (accepted false 0 0 0) (turned (readingNumber way) b) l
 acceptedOutcome (ask q) b l = record { reply = answered (answerTo q b); store = b; lent = lentAfter q b l }
 
 unfoldable pub unlessRefused : ℕ → Call → Word → Lent → Outcome

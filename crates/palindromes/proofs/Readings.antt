@@ -1,13 +1,14 @@
--- What is asked of the partner rules, of either reading: each undoes itself, the partner of a byte is a byte, and that of a letter a letter. And what is so of inverted records alone: no
--- letter is its own partner, so that a repeat has an even length and no single letter is one. Rests on the four letters (`Letters`) and on the letters that face each other (`symmetric-at`).
+-- What is asked of the partner rules, of either reading: each undoes itself, the partner of a byte is a byte, and that of a letter a letter. What is so of inverted records alone: no
+-- letter is its own partner, so that a repeat has an even length and no single letter is one. And that no word is a repeat in both readings. Rests on the four letters (`Letters`) and on the letters that face each other (`symmetric-at`).
 use Prim.Native.Nat.{ℕ, suc, _+_, _-_, _/_, _%_, _<_}
 use native.Mathlib.Decide.{decLt}
 use native.Mathlib.Omega.{arith}
 use mathlib.Core.Path.{_≡_, refl, sym, ap, _∙_}
 use mathlib.Core.Bool.{Bool, true, false, cond}
+use mathlib.Core.List.{[], _∷_}
 use lib.Dec.{eqb}
 use lib.ListN.{length, getD}
-use borrow.Author.Tests.{eqb-true}
+use borrow.Author.Tests.{eqb-true, eqb-false}
 use Rattle.palindromes.specs.Word.{Word, isLetter, allLetters}
 use Rattle.palindromes.specs.Palindrome.{SelfInverse, plain, Symmetric}
 use Rattle.palindromes.specs.Reading.{Reading, asPlain, asInverted, complement, readingNumber, ruleIn}
@@ -100,3 +101,22 @@ even-length m e w all h = go (decLt (length w / 2 + length w / 2) (length w))
         let faces : length w - suc middle ≡ middle = omega arith in
         let alone : getD w middle 0 ≡ ruleIn m (getD w middle 0) = ap (λ (i : ℕ). getD w i 0) (sym faces) ∙ symmetric-at (ruleIn m) w h middle inside in
         absurd (no-letter-alone m (getD w middle 0) e (letter-of w middle inside all) (sym alone))
+
+-- ---- both readings
+
+-- 02 (vii): no word of letters is a repeat in both readings, for its first letter would be its own partner
+pub one-reading : (m n : ℕ) → m < 2 → n < 2 → (m ≡ n → ⊥) → (w : Word) → (w ≡ [] → ⊥) → allLetters w ≡ true → Symmetric (ruleIn m) w → Symmetric (ruleIn n) w → ⊥
+one-reading m n below below′ differ [] some all h h′ = some refl
+one-reading m n below below′ differ (c ∷ w) some all h h′ = go (eqb m 1) (eqb n 1) refl refl
+  where
+    letter : isLetter c ≡ true
+    letter = letter-of (c ∷ w) 0 (omega arith) all
+
+    alike : ruleIn m c ≡ ruleIn n c
+    alike = sym (symmetric-at (ruleIn m) (c ∷ w) h 0 (omega arith)) ∙ symmetric-at (ruleIn n) (c ∷ w) h′ 0 (omega arith)
+
+    go : (s t : Bool) → eqb m 1 ≡ s → eqb n 1 ≡ t → ⊥
+    go true true e f = differ (eqb-true m 1 e ∙ sym (eqb-true n 1 f))
+    go true false e f = no-letter-alone m c e letter (alike ∙ rule-plain n f c)
+    go false true e f = no-letter-alone n c f letter (sym alike ∙ rule-plain m e c)
+    go false false e f = differ (omega (arith, eqb-false m 1 e, eqb-false n 1 f))

@@ -49,7 +49,11 @@ unfoldable pub longestAt : (ℕ → ℕ) → End → Word → Word
 longestAt σ atLeft s = longestPrefix σ s
 longestAt σ atRight s = longestSuffix σ s
 
--- the repeats that stand in the second record and not in the first: with the letters before a call and after it, what the call brings in,
--- and with the two exchanged what it takes out (01 "Lists of calls")
+-- the words of the second list that are not in the first: with the repeats before a call and after it, what the call brings in, and with the two exchanged what it
+-- takes out (01 "Lists of calls")
+abbrev pub notAmong : List Word → List Word → List Word
+notAmong old new = keep (λ p. not (member p old)) new
+
+-- the same by the letters before and after, where the reading stays
 unfoldable pub newIn : (ℕ → ℕ) → Word → Word → List Word
-newIn σ s t = keep (λ p. not (member p (palindromes σ s))) (palindromes σ t)
+newIn σ s t = notAmong (palindromes σ s) (palindromes σ t)

@@ -27,6 +27,7 @@ pub data Call : Type 0 where
   opening : Reading → (capacity : ℕ) → Call
   add : End → (letter : ℕ) → Call
   remove : End → Call
+  turn : Reading → Call
   ask : Question → Call
 
 -- what a call meets: the sizes of the lent store, scratch and output, whether the store is good and long enough for its capacity, and what it shows. The
@@ -86,6 +87,7 @@ unfoldable pub faults : (ℕ → ℕ) → View → Call → List ℕ
 faults σ v (opening way k) = fault 1 (not (leb 1 k && leb k 1024)) ∷ fault 2 (ltb (v .size) (storeSize k)) ∷ []
 faults σ v (add e c) = fault 3 (not (v .good)) ∷ fault 4 (not (isLetter c)) ∷ fault 5 (leb (v .capacity) (length (v .letters))) ∷ []
 faults σ v (remove e) = fault 3 (not (v .good)) ∷ fault 6 (isEmpty (v .letters)) ∷ []
+faults σ v (turn way) = fault 3 (not (v .good)) ∷ []
 faults σ v (ask q) = fault 3 (not (v .good)) ∷ questionFaults σ v q
 
 -- the number that the call answers: 0 exactly if it is carried out

@@ -44,9 +44,9 @@ zero-row : (t : Bool) (m : ℕ) {r : Reply} → r ≡ accepted t (cond t m 0) 0 
 zero-row t m e f = zero-first t m 0 e f
 
 -- a reply that says 1 gives the longest repeat at its end the row that it answers
-answered-row : (m : ℕ) (s : Word) (e : End) (c : ℕ) (r : Reply) (row : Word → ℕ) → r .flag ≡ true → r .row ≡ rowStep m s (add e c) r row (longestAt (ruleIn m) e (added e c s))
+answered-row : (m : ℕ) (s : Word) (e : End) (c : ℕ) (r : Reply) (b : Word) (row : Word → ℕ) → r .flag ≡ true → r .row ≡ rowStep m s (add e c) r b row (longestAt (ruleIn m) e (added e c s))
 unfolding rowStep
-answered-row m s e c r row f =
+answered-row m s e c r b row f =
     sym (ap₂ (λ (t x : Bool). cond (t && x) (r .row) (row (longestAt (ruleIn m) e (added e c s)))) f (same-refl (longestAt (ruleIn m) e (added e c s))))
 
 module _ (m k : ℕ) (s : Word) (row : Word → ℕ) (b : Word) (st : State m k s row b) where
@@ -114,14 +114,14 @@ module _ (m k : ℕ) (s : Word) (row : Word → ℕ) (b : Word) (st : State m k 
     letters-is h = ap (λ (t : Bool). cond t (added e c s) s) h
 
     -- the rows after an accepted addition: an old repeat keeps its own, and the new one has the row that was answered
-    rows-after : room ≡ true → (w : Word) → Palindrome (ruleIn m) w → Stands w (added e c s) → rowStep m s (add e c) (o .reply) row w ≡ rowOf (afterAddition e c b) (spelt w)
+    rows-after : room ≡ true → (w : Word) → Palindrome (ruleIn m) w → Stands w (added e c s) → rowStep m s (add e c) (o .reply) (o .store) row w ≡ rowOf (afterAddition e c b) (spelt w)
     unfolding rowStep accepted
     rows-after h w p there = ⊎-elim old new (stands-or-not w s)
       where
         f : Transitions·Added.Added e c b
         f = facts h
 
-        old : Stands w s → rowStep m s (add e c) (o .reply) row w ≡ rowOf (afterAddition e c b) (spelt w)
+        old : Stands w s → rowStep m s (add e c) (o .reply) (o .store) row w ≡ rowOf (afterAddition e c b) (spelt w)
         old q =
             let held = row-of-node good (spelt w) (rw (rule-is st) (p .symmetric), subst (Stands w) (sym (st .letters)) q) in
             let keeps = f .old-row (rowOf b (spelt w)) (held .0) in
@@ -136,10 +136,10 @@ module _ (m k : ℕ) (s : Word) (row : Word → ℕ) (b : Word) (st : State m k 
             go true false g m = refl
             go false u g m = refl
 
-        new : (Stands w s → ⊥) → rowStep m s (add e c) (o .reply) row w ≡ rowOf (afterAddition e c b) (spelt w)
+        new : (Stands w s → ⊥) → rowStep m s (add e c) (o .reply) (o .store) row w ≡ rowOf (afterAddition e c b) (spelt w)
         new n = ⊎-elim fresh-one (λ q. absurd (n q)) (new-is-longest (ruleIn m) (rule-inverse m) e s w c (p .symmetric) there)
           where
-            fresh-one : w ≡ v → rowStep m s (add e c) (o .reply) row w ≡ rowOf (afterAddition e c b) (spelt w)
+            fresh-one : w ≡ v → rowStep m s (add e c) (o .reply) (o .store) row w ≡ rowOf (afterAddition e c b) (spelt w)
             fresh-one g =
                 let not-there : stands v s ≡ false = not-true-false (stands v s) (λ m. n (subst (λ (x : Word). Stands x s) (sym g) (stands-true v s m))) in
                 let brings : bringsIn e c b ≡ true = brings-is ∙ ap not not-there in
@@ -149,25 +149,25 @@ module _ (m k : ℕ) (s : Word) (row : Word → ℕ) (b : Word) (st : State m k 
                 ∙ sym (row-of (f .good) (freeRow b) (spelt w) (held .0) (held .1 ∙ ap spelt (longest-is ∙ sym g)))
 
     -- a refused addition leaves letters, rows and store
-    refused-state : room ≡ false → State m k (lettersStep k s (add e c)) (rowStep m s (add e c) (o .reply) row) (o .store)
+    refused-state : room ≡ false → State m k (lettersStep k s (add e c)) (rowStep m s (add e c) (o .reply) (o .store) row) (o .store)
     unfolding lettersStep rowStep refusedOutcome refusedWith
     refused-state h =
         let g = add-refused h in
         let made : State m k s row b = st in
-        let same : (w : Word) → row w ≡ rowStep m s (add e c) (o .reply) row w =
+        let same : (w : Word) → row w ≡ rowStep m s (add e c) (o .reply) (o .store) row w =
         λ w. ap (λ (x : Outcome). cond (x .reply .flag && sameWord w (longestAt (ruleIn m) e (added e c s))) (x .reply .row) (row w)) (sym (g .1)) in
-        subst₂ (λ (t x : Word). State m k t (rowStep m s (add e c) (o .reply) row) x)
+        subst₂ (λ (t x : Word). State m k t (rowStep m s (add e c) (o .reply) (o .store) row) x)
         (ap (λ (t : Bool). cond t (added e c s) s) (sym h))
         (ap (λ (x : Outcome). x .store) (sym (g .1)))
-        (renamed-rows m k s b row (rowStep m s (add e c) (o .reply) row) same made)
+        (renamed-rows m k s b row (rowStep m s (add e c) (o .reply) (o .store) row) same made)
 
-    pub add-state : State m k (lettersStep k s (add e c)) (rowStep m s (add e c) (o .reply) row) (o .store)
+    pub add-state : State m k (lettersStep k s (add e c)) (rowStep m s (add e c) (o .reply) (o .store) row) (o .store)
     add-state = ⊎-elim yes-room no-room (decided room)
       where
-        yes-room : room ≡ true → State m k (lettersStep k s (add e c)) (rowStep m s (add e c) (o .reply) row) (o .store)
+        yes-room : room ≡ true → State m k (lettersStep k s (add e c)) (rowStep m s (add e c) (o .reply) (o .store) row) (o .store)
         yes-room h =
             let f = facts h in
-            let made : State m k (added e c s) (rowStep m s (add e c) (o .reply) row) (afterAddition e c b) =
+            let made : State m k (added e c s) (rowStep m s (add e c) (o .reply) (o .store) row) (afterAddition e c b) =
             record {
               good = f .good;
               capacity = f .capacity ∙ st .capacity;
@@ -176,9 +176,9 @@ module _ (m k : ℕ) (s : Word) (row : Word → ℕ) (b : Word) (st : State m k 
               rows = rows-after h;
               bytes = f .bytes (st .bytes);
             } in
-            subst₂ (λ (t x : Word). State m k t (rowStep m s (add e c) (o .reply) row) x) (sym (letters-is h)) (sym (store-is h)) made
+            subst₂ (λ (t x : Word). State m k t (rowStep m s (add e c) (o .reply) (o .store) row) x) (sym (letters-is h)) (sym (store-is h)) made
 
-        no-room : room ≡ false → State m k (lettersStep k s (add e c)) (rowStep m s (add e c) (o .reply) row) (o .store)
+        no-room : room ≡ false → State m k (lettersStep k s (add e c)) (rowStep m s (add e c) (o .reply) (o .store) row) (o .store)
         no-room h = refused-state h
 
     -- the first point for an addition
@@ -194,7 +194,7 @@ module _ (m k : ℕ) (s : Word) (row : Word → ℕ) (b : Word) (st : State m k 
     unfolding accepted
     flag-is h = ap (λ (r : Reply). r .flag) (reply-is h)
 
-    pub add-claim : Added m k s (rowStep m s (add e c) (o .reply) row) e c (o .reply)
+    pub add-claim : Added m k s (rowStep m s (add e c) (o .reply) (o .store) row) e c (o .reply)
     add-claim =
         record {
           accepted-if = zero-number;
@@ -211,14 +211,14 @@ module _ (m k : ℕ) (s : Word) (row : Word → ℕ) (b : Word) (st : State m k 
         only : o .reply .number ≡ 0 → room ≡ true
         only z = ⊎-elim (λ h. h) (λ h. absurd (refused-number h z)) (decided room)
 
-        new-row : o .reply .flag ≡ true → o .reply .row ≡ rowStep m s (add e c) (o .reply) row (longestAt (ruleIn m) e (added e c s))
-        new-row f = answered-row m s e c (o .reply) row f
+        new-row : o .reply .flag ≡ true → o .reply .row ≡ rowStep m s (add e c) (o .reply) (o .store) row (longestAt (ruleIn m) e (added e c s))
+        new-row f = answered-row m s e c (o .reply) (o .store) row f
 
         no-row : o .reply .flag ≡ false → o .reply .row ≡ 0
         no-row f = ⊎-elim (λ h. zero-row (bringsIn e c b) (freeRow b) (reply-is h) f) (λ h. no-flag h .1) (decided room)
 
     -- a repeat that stood keeps its row
-    pub add-keeps : (w : Word) → Stands w s → rowStep m s (add e c) (o .reply) row w ≡ row w
+    pub add-keeps : (w : Word) → Stands w s → rowStep m s (add e c) (o .reply) (o .store) row w ≡ row w
     unfolding rowStep
     add-keeps w q = go (o .reply .flag) (sameWord w v) refl refl
       where

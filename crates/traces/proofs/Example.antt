@@ -3,7 +3,7 @@
 -- right end, which makes CAC; A is refused, since the record is full; and the letter at the right goes. Each call comes to its outcome by the definitions.
 use Prim.Native.Nat.{ℕ, zero, suc, _≤_, _<_}
 use native.Mathlib.Omega.{arith}
-use mathlib.Core.Path.{_≡_, refl, sym, ap, _∙_}
+use mathlib.Core.Path.{_≡_, refl, sym, ap, _∙_, subst}
 use mathlib.Core.Bool.{true, false, _&&_}
 use mathlib.Core.List.{List, [], _∷_, cons-ne-nil}
 use lib.Dec.{ltb}
@@ -25,8 +25,8 @@ use Rattle.outcome.specs.Outcome.{Outcome, outcome, acceptedOutcome, changed, v
 use Rattle.outcome.specs.Promise.{nothing, OpeningPromise}
 use Rattle.outcome.proofs.Refusals.{opening-accepted, opening-capacity, add-letter, carried-out}
 use Rattle.outcome.proofs.Told.{opening-told}
-use Rattle.traces.specs.Run.{Step, storeAfter, Run, begun, lettersStep, lettersAfter, rowAfter}
-use Rattle.traces.specs.Claims.{Replies, numberOf, Kept, Called, EachCall, Undone, Claims}
+use Rattle.traces.specs.Run.{Step, storeAfter, Run, begun, lettersStep, lettersAfter, readingStep, readingAfter, rowAfter}
+use Rattle.traces.specs.Claims.{Replies, numberOf, Table, Kept, Called, EachCall, Undone, Claims}
 use Rattle.traces.proofs.Theorem.{every-list, always-good}
 use Rattle.traces.proofs.Possible.{stepOf, MayStand, keeps-contract, goes-on}
 
@@ -165,6 +165,36 @@ pub letters-left : lettersAfter 3 calls ≡ 67 ∷ 65 ∷ []
 unfolding calls lettersAfter lettersStep removed withoutLast
 letters-left = rw letters-full refl
 
+-- ---- the reading, from the arguments alone: no call of the list changes it
+
+plain-CA : readingAfter 0 with-CA ≡ 0
+unfolding with-CA with-A G-gone with-G readingAfter readingStep
+plain-CA = refl
+
+plain-tried : readingAfter 0 opening-tried ≡ 0
+unfolding opening-tried readingAfter readingStep
+plain-tried = plain-CA
+
+plain-N : readingAfter 0 N-tried ≡ 0
+unfolding N-tried readingAfter readingStep
+plain-N = plain-tried
+
+plain-row : readingAfter 0 row-asked ≡ 0
+unfolding row-asked C-sought readingAfter readingStep
+plain-row = plain-N
+
+plain-CAC : readingAfter 0 with-CAC ≡ 0
+unfolding with-CAC readingAfter readingStep
+plain-CAC = plain-row
+
+plain-full : readingAfter 0 A-tried ≡ 0
+unfolding A-tried readingAfter readingStep
+plain-full = plain-CAC
+
+plain-left : readingAfter 0 calls ≡ 0
+unfolding calls readingAfter readingStep
+plain-left = plain-full
+
 -- ---- after the list: C and A stand, each in a row of its own
 
 abbrev end : Word
@@ -172,6 +202,9 @@ end = storeAfter start calls
 
 abbrev rowNow : Word → ℕ
 rowNow w = rowAfter 0 3 calls w
+
+its-table : Table 0 3 (lettersAfter 3 calls) rowNow end
+its-table = subst (λ (m : ℕ). Table m 3 (lettersAfter 3 calls) rowNow end) plain-left (its-claims .table)
 
 letter : (c : ℕ) → Palindrome (ruleIn 0) (c ∷ [])
 unfolding mirror ruleIn
@@ -187,20 +220,20 @@ pub still-good : Good end
 still-good = its-claims .shown .good
 
 pub C-found : Replies (find (67 ∷ [])) end (accepted true (rowNow (67 ∷ [])) 0 0)
-C-found = its-claims .table .found (67 ∷ []) (letter 67) C-stands
+C-found = its-table .found (67 ∷ []) (letter 67) C-stands
 
 pub C-in-range : (2 ≤ rowNow (67 ∷ [])) × (rowNow (67 ∷ []) ≤ 4)
-C-in-range = its-claims .table .in-range (67 ∷ []) (letter 67) C-stands
+C-in-range = its-table .in-range (67 ∷ []) (letter 67) C-stands
 
 pub own-rows : rowNow (67 ∷ []) ≡ rowNow (65 ∷ []) → ⊥
 own-rows e =
-    let same = its-claims .table .alone (67 ∷ []) (65 ∷ []) (letter 67) C-stands (letter 65) A-stands e in
+    let same = its-table .alone (67 ∷ []) (65 ∷ []) (letter 67) C-stands (letter 65) A-stands e in
     omega (arith, ap (λ (w : Word). getD w 0 0) same)
 
 -- C's link is the empty string, in row 1, its length 1, and its inner row the imaginary one, 0
 pub C-fields : Replies (theRow (rowNow (67 ∷ []))) end (accepted false 1 1 0)
 unfolding numberOf linkOf innerOf longestSuffix
-C-fields = its-claims .table .fields (67 ∷ []) (letter 67) C-stands
+C-fields = its-table .fields (67 ∷ []) (letter 67) C-stands
 
 AA-nowhere : Stands (65 ∷ 65 ∷ []) (lettersAfter 3 calls) → ⊥
 unfolding stands frequency places placesFrom startsWith
@@ -210,30 +243,36 @@ AA-nowhere h =
 
 pub AA-absent : Replies (find (65 ∷ 65 ∷ [])) end (accepted false 0 0 0)
 unfolding allLetters isLetter
-AA-absent = its-claims .table .absent (65 ∷ 65 ∷ []) (cons-ne-nil 65 (65 ∷ [])) refl (λ p h. AA-nowhere h)
+AA-absent = its-table .absent (65 ∷ 65 ∷ []) (cons-ne-nil 65 (65 ∷ [])) refl (λ p h. AA-nowhere h)
 
 -- no repeat has row 5, which is over capacity + 1
 row-five : (w : Word) → Palindrome (ruleIn 0) w → Stands w (lettersAfter 3 calls) → rowNow w ≡ 5 → ⊥
-row-five w p h e = omega (arith, its-claims .table .in-range w p h .1, e)
+row-five w p h e = omega (arith, its-table .in-range w p h .1, e)
 
 pub five-refused : Replies (theRow 5) end (refusedWith 7)
-five-refused = its-claims .table .no-row 5 (omega arith) row-five
+five-refused = its-table .no-row 5 (omega arith) row-five
 
 pub five-unspelt : Replies (spell 5) end (refusedWith 7)
-five-unspelt = its-claims .table .no-spelling 5 (omega arith) row-five
+five-unspelt = its-table .no-spelling 5 (omega arith) row-five
 
 -- ---- each call: with the calls before it
 
 abbrev answered : List Step → Call → ℕ
 answered xs call = stepOf call (storeAfter start xs) nothing .answer
 
--- what is claimed of a call that comes after the list
+-- what is claimed of a call that comes after the list, in the reading m
+abbrev ClaimedIn : ℕ → List Step → Call → Type 0
+ClaimedIn m xs call = Called m 3 (lettersAfter 3 xs) (λ w. rowAfter 0 3 xs w) (λ w. rowAfter 0 3 (more xs call) w) (storeAfter start xs) (stepOf call (storeAfter start xs) nothing)
+
 abbrev ClaimedOf : List Step → Call → Type 0
-ClaimedOf xs call = Called 0 3 (lettersAfter 3 xs) (λ w. rowAfter 0 3 xs w) (λ w. rowAfter 0 3 (more xs call) w) (storeAfter start xs) (stepOf call (storeAfter start xs) nothing)
+ClaimedOf xs call = ClaimedIn 0 xs call
+
+in-plain : (xs : List Step) (call : Call) → readingAfter 0 xs ≡ 0 → ClaimedIn (readingAfter 0 xs) xs call → ClaimedOf xs call
+in-plain xs call e h = subst (λ (m : ℕ). ClaimedIn m xs call) e h
 
 of-removal : ClaimedOf A-tried (remove atRight)
 unfolding EachCall calls
-of-removal = its-claims .each .0
+of-removal = in-plain A-tried (remove atRight) plain-full (its-claims .each .0)
 
 -- the removal is accepted and takes C, and CAC with it, which stood once only; C itself stays, in its row
 removal-accepted : unpacked (answered A-tried (remove atRight)) .number ≡ 0
@@ -247,17 +286,17 @@ C-stood : Stands (67 ∷ []) (lettersAfter 3 A-tried)
 C-stood = record { before = []; after = 65 ∷ 67 ∷ []; whole = sym letters-full }
 
 pub C-kept : Kept (67 ∷ []) (λ w. rowAfter 0 3 A-tried w) (λ w. rowAfter 0 3 calls w) (storeAfter start A-tried) (stepOf (remove atRight) (storeAfter start A-tried) nothing .store)
-unfolding calls lettersAfter
-C-kept = of-removal .kept (67 ∷ []) (letter 67) C-stood C-stands
+unfolding calls lettersAfter readingStep
+C-kept = of-removal .kept (67 ∷ []) (letter 67) C-stood (letter 67) C-stands
 
 -- the calls before it, last first
 of-refused-A : ClaimedOf with-CAC (add atLeft 65)
 unfolding EachCall calls A-tried
-of-refused-A = its-claims .each .1 .0
+of-refused-A = in-plain with-CAC (add atLeft 65) plain-CAC (its-claims .each .1 .0)
 
 of-addition : ClaimedOf row-asked (add atRight 67)
 unfolding EachCall calls A-tried with-CAC
-of-addition = its-claims .each .1 .1 .0
+of-addition = in-plain row-asked (add atRight 67) plain-row (its-claims .each .1 .1 .0)
 
 each-to-row : EachCall 0 3 start row-asked
 unfolding EachCall calls A-tried with-CAC
@@ -265,15 +304,15 @@ each-to-row = its-claims .each .1 .1 .1
 
 of-question : ClaimedOf N-tried (ask (find (67 ∷ [])))
 unfolding EachCall row-asked C-sought
-of-question = each-to-row .1 .0
+of-question = in-plain N-tried (ask (find (67 ∷ []))) plain-N (each-to-row .1 .0)
 
 of-refused-N : ClaimedOf opening-tried (add atRight 78)
 unfolding EachCall row-asked C-sought N-tried
-of-refused-N = each-to-row .1 .1 .0
+of-refused-N = in-plain opening-tried (add atRight 78) plain-tried (each-to-row .1 .1 .0)
 
 of-refused-opening : ClaimedOf with-CA (opening asPlain 0)
 unfolding EachCall row-asked C-sought N-tried opening-tried
-of-refused-opening = each-to-row .1 .1 .1 .0
+of-refused-opening = in-plain with-CA (opening asPlain 0) plain-CA (each-to-row .1 .1 .1 .0)
 
 -- the addition brings in CAC, which stood nowhere before
 pub CAC-came : unpacked (answered row-asked (add atRight 67)) .flag ≡ true

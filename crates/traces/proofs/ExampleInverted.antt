@@ -2,7 +2,7 @@
 -- T. A alone is no repeat there.
 use Prim.Native.Nat.{ℕ}
 use native.Mathlib.Omega.{arith}
-use mathlib.Core.Path.{_≡_, refl, sym, ap, _∙_}
+use mathlib.Core.Path.{_≡_, refl, sym, ap, _∙_, subst}
 use mathlib.Core.Bool.{true, false}
 use mathlib.Core.List.{List, [], _∷_, cons-ne-nil}
 use lib.ListN.{getD}
@@ -16,8 +16,8 @@ use Rattle.palindromes.specs.Node.{linkOf, innerOf}
 use Rattle.palindromes.specs.Refusal.{theRow, find, add}
 use Rattle.outcome.specs.Reply.{accepted, unpacked}
 use Rattle.outcome.specs.Promise.{nothing}
-use Rattle.traces.specs.Run.{Step, storeAfter, Run, begun, lettersStep, lettersAfter, rowAfter}
-use Rattle.traces.specs.Claims.{Replies, numberOf, EachCall, Claims}
+use Rattle.traces.specs.Run.{Step, storeAfter, Run, begun, lettersStep, lettersAfter, readingStep, readingAfter, rowAfter}
+use Rattle.traces.specs.Claims.{Replies, numberOf, Table, EachCall, Claims}
 use Rattle.traces.proofs.Possible.{stepOf}
 use Rattle.traces.proofs.Example.{startIn, moreIn, one-more-in, claims-of}
 
@@ -46,11 +46,23 @@ letters-AT : lettersAfter 3 with-AT ≡ 65 ∷ 84 ∷ []
 unfolding with-AT lettersAfter lettersStep added isLetter
 letters-AT = rw letters-A refl
 
+-- no call of the list changes the reading
+inverted-A : readingAfter 1 with-A ≡ 1
+unfolding with-A readingAfter readingStep
+inverted-A = refl
+
+inverted-AT : readingAfter 1 with-AT ≡ 1
+unfolding with-AT readingAfter readingStep
+inverted-AT = inverted-A
+
 abbrev end : Word
 end = storeAfter start with-AT
 
 abbrev rowNow : Word → ℕ
 rowNow w = rowAfter 1 3 with-AT w
+
+its-table : Table 1 3 (lettersAfter 3 with-AT) rowNow end
+its-table = subst (λ (m : ℕ). Table m 3 (lettersAfter 3 with-AT) rowNow end) inverted-AT (inverted-claims .table)
 
 AT-repeat : Palindrome (ruleIn 1) (65 ∷ 84 ∷ [])
 unfolding mirror ruleIn complement
@@ -61,11 +73,11 @@ AT-stands = record { before = []; after = []; whole = sym letters-AT }
 
 -- AT is found, its link and its inner row are the empty string's
 pub AT-found : Replies (find (65 ∷ 84 ∷ [])) end (accepted true (rowNow (65 ∷ 84 ∷ [])) 0 0)
-AT-found = inverted-claims .table .found (65 ∷ 84 ∷ []) AT-repeat AT-stands
+AT-found = its-table .found (65 ∷ 84 ∷ []) AT-repeat AT-stands
 
 pub AT-fields : Replies (theRow (rowNow (65 ∷ 84 ∷ []))) end (accepted false 1 2 1)
 unfolding numberOf linkOf innerOf withoutLast longestSuffix isSymmetric mirror sameWord ruleIn complement
-AT-fields = inverted-claims .table .fields (65 ∷ 84 ∷ []) AT-repeat AT-stands
+AT-fields = its-table .fields (65 ∷ 84 ∷ []) AT-repeat AT-stands
 
 -- A is absent, though it stands
 A-none : Palindrome (ruleIn 1) (65 ∷ []) → ⊥
@@ -74,11 +86,11 @@ A-none p = omega (arith, ap (λ (w : Word). getD w 0 0) (p .symmetric))
 
 pub A-absent : Replies (find (65 ∷ [])) end (accepted false 0 0 0)
 unfolding allLetters isLetter
-A-absent = inverted-claims .table .absent (65 ∷ []) (cons-ne-nil 65 []) refl (λ p h. A-none p)
+A-absent = its-table .absent (65 ∷ []) (cons-ne-nil 65 []) refl (λ p h. A-none p)
 
 -- T brings in AT
 pub AT-came : unpacked (stepOf (add atRight 84) (storeAfter start with-A) nothing .answer) .flag ≡ true
 unfolding EachCall with-AT stands frequency places placesFrom startsWith longestAt longestSuffix isSymmetric mirror sameWord added isLetter ruleIn complement
 AT-came =
     let claim = inverted-claims .each .0 .addition atRight 84 refl in
-    claim .comes-in (claim .accepted-if (rw letters-A refl)) ∙ rw letters-A refl
+    claim .comes-in (claim .accepted-if (rw letters-A refl)) ∙ rw (inverted-A, letters-A) refl

@@ -4,6 +4,7 @@ pub mod Table
 pub mod Shared
 pub mod Addition
 pub mod Removal
+pub mod Turn
 pub mod Undone
 pub mod Theorem
 pub mod Possible

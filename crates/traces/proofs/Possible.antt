@@ -7,7 +7,7 @@ use mathlib.Core.List.{List, _∷_}
 use lib.ListN.{getD, replicate}
 use Rattle.palindromes.specs.Word.{Word}
 use Rattle.palindromes.specs.Reading.{Reading}
-use Rattle.palindromes.specs.Refusal.{Call, opening, add, remove, ask, refusal}
+use Rattle.palindromes.specs.Refusal.{Call, opening, add, remove, turn, ask, refusal}
 use Rattle.store.specs.Layout.{cell, capacityIn}
 use Rattle.store.specs.Good.{ruleOf, Good}
 use Rattle.transitions.specs.Bytes.{Bytes}
@@ -29,6 +29,7 @@ abbrev pub MayStand : Call → Word → Lent → Type 0
 MayStand (opening way k) b l = (l ≡ nothing) × (refusal (ruleOf b) (viewIn b nothing) (opening way k) ≡ 0 → ⊥)
 MayStand (add e c) b l = Unit {0}
 MayStand (remove e) b l = Unit {0}
+MayStand (turn way) b l = Unit {0}
 MayStand (ask q) b l = Unit {0}
 
 -- on a good store it keeps its contract
@@ -49,6 +50,7 @@ unfolding Stated
 keeps-contract (opening way k) b l g h = subst (λ (x : Lent). Keeps b (stepOf (opening way k) b x)) (sym (h .0)) (refused-opening way k b (h .1))
 keeps-contract (add e c) b l g h = promised (add e c) b l g
 keeps-contract (remove e) b l g h = promised (remove e) b l g
+keeps-contract (turn way) b l g h = promised (turn way) b l g
 keeps-contract (ask q) b l g h = promised (ask q) b l g
 
 -- any list from an opening goes on

@@ -1,43 +1,43 @@
 -- The theorem about every whole list of calls, `every-list`: from what the exported contracts state of each call to what document 01 claims of the list. A question is one
--- case here, whichever it is. Rests on `Addition`, `Removal`, `Undone` and `Table`, and on `Told` of the outcomes, which reads an answer back.
+-- case here, whichever it is. Rests on `Addition`, `Removal`, `Turn`, `Undone` and `Table`, and on `Told` of the outcomes, which reads an answer back.
 use Prim.Native.Nat.{ℕ, zero, suc, _≤_}
-use native.Mathlib.Omega.{arith}
 use mathlib.Core.Path.{_≡_, refl, sym, ap, ap₂, _∙_, subst, subst₂}
-use mathlib.Core.Bool.{true, false}
+use mathlib.Core.Bool.{Bool, true, false, cond}
 use mathlib.Core.List.{List, [], _∷_}
-use lib.ListN.{length, set, replicate}
-use lib.Seq.{sets}
+use lib.Dec.{eqb}
+use lib.ListN.{length}
+use borrow.Author.Tests.{eqb-true, eqb-false, eq-eqb}
 use Rattle.palindromes.specs.Word.{Word}
 use Rattle.palindromes.specs.Palindrome.{Palindrome}
 use Rattle.palindromes.specs.Reading.{Reading, readingNumber, ruleIn}
 use Rattle.palindromes.specs.Place.{Stands}
 use Rattle.palindromes.specs.End.{End, removed, letterAt}
 use Rattle.palindromes.specs.Node.{Node, imaginary, spelt, linkOf, innerOf}
-use Rattle.palindromes.specs.Refusal.{Question, theRow, find, Call, opening, add, remove, ask, storeSize, refusal}
+use Rattle.palindromes.specs.Refusal.{Question, theRow, find, Call, opening, add, remove, turn, ask, storeSize, refusal}
 use Rattle.palindromes.proofs.Words.{stands-of-empty}
 use Rattle.palindromes.proofs.Readings.{number-below}
 use Rattle.eertree.specs.Covers.{NodeOf}
 use Rattle.store.specs.Layout.{lettersIn}
 use Rattle.store.specs.Good.{ruleOf, Good}
-use Rattle.transitions.specs.Opening.{usedBytes, openingWrites, opened}
+use Rattle.transitions.specs.Opening.{opened}
 use Rattle.transitions.specs.Rows.{rowOf}
 use Rattle.transitions.specs.Addition.{bringsIn, rowAfter as rowAfterAddition}
 use Rattle.transitions.specs.Removal.{longestBefore, takesOut}
 use Rattle.transitions.specs.Bytes.{Bytes}
-use Rattle.transitions.proofs.AddedRuns.{bytes-set, bytes-writes}
-use Rattle.transitions.proofs.Opening.{opened-capacity, opened-reading, opened-letters, opened-good}
+use Rattle.transitions.proofs.Opening.{opened-capacity, opened-reading, opened-letters, opened-bytes, opened-good}
 use Rattle.outcome.specs.Reply.{Reply, packed, accepted, refusedWith, refusalIn, unpacked}
 use Rattle.outcome.specs.Outcome.{Lent, Outcome, viewIn, changed, acceptedOutcome, refusedOutcome, unlessRefused, outcome}
 use Rattle.outcome.specs.Promise.{nothing, OpeningPromise}
 use Rattle.outcome.proofs.Refusals.{number-other, opening-room}
 use Rattle.outcome.proofs.Replies.{reply-of-added, reply-of-removed}
 use Rattle.outcome.proofs.Told.{Told, told, opening-told}
-use Rattle.traces.specs.Run.{Step, Stated, Keeps, storeAfter, Run, begun, called, lettersStep, lettersAfter, rowStep, rowAfter}
-use Rattle.traces.specs.Claims.{SameAnswer, numberOf, Added, Removed, Kept, Called, EachCall, Undone, Claims}
+use Rattle.traces.specs.Run.{Step, Stated, Keeps, storeAfter, Run, begun, called, lettersStep, lettersAfter, readingStep, readingAfter, rowFound, rowStep, rowAfter}
+use Rattle.traces.specs.Claims.{SameAnswer, numberOf, Added, Removed, Turned, Kept, Called, EachCall, Undone, Claims}
 use Rattle.traces.proofs.State.{State}
 use Rattle.traces.proofs.Table.{table, shown, link-node, inner-node, find-outcome, row-outcome}
 use Rattle.traces.proofs.Addition.{add-state, add-claim, add-keeps}
 use Rattle.traces.proofs.Removal.{remove-state, remove-claim}
+use Rattle.traces.proofs.Turn.{none-both, turn-state, turn-claim}
 use Rattle.traces.proofs.Undone.{good-now, undone-claim}
 
 -- ---- outcomes, whatever the refusal number n
@@ -49,6 +49,7 @@ number-of (suc n) call b l = refl
 number-of zero (opening way k) b l = refl
 number-of zero (add e c) b l = ap (λ (r : Reply). r .number) (reply-of-added (bringsIn e c b) (rowAfterAddition e c b))
 number-of zero (remove e) b l = ap (λ (r : Reply). r .number) (reply-of-removed (takesOut e b) (letterAt e (lettersIn b)) (rowOf b (spelt (longestBefore e b))))
+number-of zero (turn way) b l = refl
 number-of zero (ask q) b l = refl
 
 -- a refused call
@@ -85,7 +86,12 @@ module _ (m k : ℕ) (s : Word) (row : Word → ℕ) (b : Word) (st : State m k 
       go (opening way n) e p = opening-told (p .0) (p .1)
       go (add e c) f p = told (st .good) p
       go (remove e) f p = told (st .good) p
+      go (turn way) f p = told (st .good) p
       go (ask q) f p = told (st .good) p
+
+  -- the same, where the call is known
+  told-of : (x : Step) → Keeps b x → (call : Call) → x .call ≡ call → Told (outcome call b (x .lent)) (x .answer) (x .store) (x .after)
+  told-of x p call e = subst (λ (y : Call). Told (outcome y b (x .lent)) (x .answer) (x .store) (x .after)) e (came x p)
 
   abbrev numberOfCall : Step → ℕ
   numberOfCall x = refusal (ruleOf b) (viewIn b (x .lent)) (x .call)
@@ -116,53 +122,69 @@ module _ (m k : ℕ) (s : Word) (row : Word → ℕ) (b : Word) (st : State m k 
       ∙ question-store (refusal (ruleOf b) (viewIn b (x .lent)) (ask q)) q b (x .lent)
 
   -- the state after the call
-  next-state : (x : Step) → Keeps b x → State m k (lettersStep k s (x .call)) (rowStep m s (x .call) (unpacked (x .answer)) row) (x .store)
-  unfolding lettersStep rowStep
+  next-state : (x : Step) → Keeps b x → State (readingStep m (x .call)) k (lettersStep k s (x .call)) (rowStep m s (x .call) (unpacked (x .answer)) (x .store) row) (x .store)
+  unfolding lettersStep readingStep rowStep
   next-state x p = go (x .call) refl
     where
-      told-of : (call : Call) → x .call ≡ call → Told (outcome call b (x .lent)) (x .answer) (x .store) (x .after)
-      told-of call e = subst (λ (y : Call). Told (outcome y b (x .lent)) (x .answer) (x .store) (x .after)) e (came x p)
-
-      go : (call : Call) → x .call ≡ call → State m k (lettersStep k s call) (rowStep m s call (unpacked (x .answer)) row) (x .store)
+      go : (call : Call) → x .call ≡ call → State (readingStep m call) k (lettersStep k s call) (rowStep m s call (unpacked (x .answer)) (x .store) row) (x .store)
       go (opening way n) e = subst (State m k s row) (sym (refused-store x p (opening-refused x way n e p))) st
       go (add e c) f =
-          let t = told-of (add e c) f in
-          subst₂ (λ (r : Reply) (y : Word). State m k (lettersStep k s (add e c)) (rowStep m s (add e c) r row) y) (sym (t .reply)) (sym (t .store)) (add-state m k s row b st e c (x .lent))
-      go (remove e) f = let t = told-of (remove e) f in subst (State m k (removed e s) row) (sym (t .store)) (remove-state m k s row b st e (x .lent))
+          let t = told-of x p (add e c) f in
+          subst₂ (λ (r : Reply) (y : Word). State m k (lettersStep k s (add e c)) (rowStep m s (add e c) r y row) y) (sym (t .reply)) (sym (t .store)) (add-state m k s row b st e c (x .lent))
+      go (remove e) f = let t = told-of x p (remove e) f in subst (State m k (removed e s) row) (sym (t .store)) (remove-state m k s row b st e (x .lent))
+      go (turn way) f =
+          let t = told-of x p (turn way) f in
+          subst₂ (λ (r : Reply) (y : Word). State (readingNumber way) k s (rowStep m s (turn way) r y row) y) (sym (t .reply)) (sym (t .store)) (turn-state m k s row b st way (x .lent))
       go (ask q) e = subst (State m k s row) (sym (asked-store x q e p)) st
 
   -- ---- what is claimed of the call
 
-  -- a repeat that stands keeps its row
-  keeps : (x : Step) → Keeps b x → (w : Word) → Stands w s → rowStep m s (x .call) (unpacked (x .answer)) row w ≡ row w
-  unfolding rowStep
-  keeps x p w q = go (x .call) refl
+  -- where a repeat stands before and after a call, as a repeat of the reading then in force, the reading stays: none is a repeat in both
+  same-reading : (call : Call) (w : Word) → Palindrome (ruleIn m) w → Stands w s → Palindrome (ruleIn (readingStep m call)) w → readingStep m call ≡ m
+  unfolding readingStep
+  same-reading (opening way n) w p h q = refl
+  same-reading (add e c) w p h q = refl
+  same-reading (remove e) w p h q = refl
+  same-reading (turn way) w p h q = go (eqb m (readingNumber way)) refl
     where
-      go : (call : Call) → x .call ≡ call → rowStep m s call (unpacked (x .answer)) row w ≡ row w
-      go (opening way n) e = refl
-      go (add e c) f =
-          ap (λ (r : Reply). rowStep m s (add e c) r row w) (came x p .reply ∙ ap (λ (call : Call). outcome call b (x .lent) .reply) f) ∙ add-keeps m k s row b st e c (x .lent) w q
-      go (remove e) f = refl
-      go (ask q) f = refl
+      go : (t : Bool) → eqb m (readingNumber way) ≡ t → readingNumber way ≡ m
+      go true e = sym (eqb-true m (readingNumber way) e)
+      go false e = absurd (none-both m k s row b st way (eqb-false m (readingNumber way) e) w p h q)
+  same-reading (ask a) w p h q = refl
+
+  -- what stands then keeps its row
+  keeps : (x : Step) → Keeps b x → readingStep m (x .call) ≡ m → (w : Word) → Stands w s → rowStep m s (x .call) (unpacked (x .answer)) (x .store) row w ≡ row w
+  unfolding readingStep rowStep
+  keeps x p same w q = go (x .call) refl same
+    where
+      go : (call : Call) → x .call ≡ call → readingStep m call ≡ m → rowStep m s call (unpacked (x .answer)) (x .store) row w ≡ row w
+      go (opening way n) e r = refl
+      go (add e c) f r =
+          ap (λ (r : Reply). rowStep m s (add e c) r (x .store) row w) (came x p .reply ∙ ap (λ (call : Call). outcome call b (x .lent) .reply) f) ∙ add-keeps m k s row b st e c (x .lent) w q
+      go (remove e) f r = refl
+      go (turn way) f r = ap (λ (t : Bool). cond t (row w) (rowFound (x .store) w)) (eq-eqb m (readingNumber way) (sym r))
+      go (ask q) f r = refl
 
   -- and so does every node of the letters
-  node-keeps : (x : Step) → Keeps b x → (v : Node) → NodeOf (ruleIn m) s v → numberOf (rowStep m s (x .call) (unpacked (x .answer)) row) v ≡ numberOf row v
+  node-keeps : (x : Step) → Keeps b x → readingStep m (x .call) ≡ m → (v : Node) → NodeOf (ruleIn m) s v → numberOf (rowStep m s (x .call) (unpacked (x .answer)) (x .store) row) v ≡ numberOf row v
   unfolding numberOf
-  node-keeps x p imaginary n = refl
-  node-keeps x p (spelt []) n = refl
-  node-keeps x p (spelt (y ∷ w)) n = keeps x p (y ∷ w) (n .1)
+  node-keeps x p same imaginary n = refl
+  node-keeps x p same (spelt []) n = refl
+  node-keeps x p same (spelt (y ∷ w)) n = keeps x p same (y ∷ w) (n .1)
 
-  kept-claim : (x : Step) → Keeps b x → (w : Word) → Palindrome (ruleIn m) w → Stands w s → Stands w (lettersStep k s (x .call)) → Kept w row (rowStep m s (x .call) (unpacked (x .answer)) row) b (x .store)
-  kept-claim x p w q h h′ =
-      let row′ : Word → ℕ = rowStep m s (x .call) (unpacked (x .answer)) row in
-      let next = next-state x p in
-      let same : row′ w ≡ row w = keeps x p w h in
+  kept-claim : (x : Step) → Keeps b x → (w : Word) → Palindrome (ruleIn m) w → Stands w s → Palindrome (ruleIn (readingStep m (x .call))) w → Stands w (lettersStep k s (x .call))
+      → Kept w row (rowStep m s (x .call) (unpacked (x .answer)) (x .store) row) b (x .store)
+  kept-claim x p w q h q′ h′ =
+      let row′ : Word → ℕ = rowStep m s (x .call) (unpacked (x .answer)) (x .store) row in
+      let same-rule = same-reading (x .call) w q h q′ in
+      let next = subst (λ (n : ℕ). State n k (lettersStep k s (x .call)) row′ (x .store)) same-rule (next-state x p) in
+      let same : row′ w ≡ row w = keeps x p same-rule w h in
       let found = find-outcome m k s row b st w q h in
       let found′ = find-outcome m k (lettersStep k s (x .call)) row′ (x .store) next w q h′ in
       let fields = row-outcome m k s row b st w q h in
       let fields′ = row-outcome m k (lettersStep k s (x .call)) row′ (x .store) next w q h′ in
-      let link = node-keeps x p (linkOf (ruleIn m) (spelt w)) (link-node m w q h) in
-      let inner = node-keeps x p (innerOf (spelt w)) (inner-node m w q h) in
+      let link = node-keeps x p same-rule (linkOf (ruleIn m) (spelt w)) (link-node m w q h) in
+      let inner = node-keeps x p same-rule (innerOf (spelt w)) (inner-node m w q h) in
       record {
         same-row = same;
         same-found = same-answer (find w) (st .good) (next .good)
@@ -176,16 +198,22 @@ module _ (m k : ℕ) (s : Word) (row : Word → ℕ) (b : Word) (st : State m k 
             (λ l. ap (λ (o : Outcome). o .lent) (fields l) ∙ ap (λ (o : Outcome). o .lent) (sym (fields′ l)) ∙ ap (λ (r : ℕ). outcome (ask (theRow r)) (x .store) l .lent) same);
       }
 
-  addition-claim : (x : Step) → Keeps b x → (e : End) (c : ℕ) → x .call ≡ add e c → Added m k s (rowStep m s (x .call) (unpacked (x .answer)) row) e c (unpacked (x .answer))
+  addition-claim : (x : Step) → Keeps b x → (e : End) (c : ℕ) → x .call ≡ add e c → Added m k s (rowStep m s (x .call) (unpacked (x .answer)) (x .store) row) e c (unpacked (x .answer))
   addition-claim x p e c f =
-      let t : unpacked (x .answer) ≡ outcome (add e c) b (x .lent) .reply = came x p .reply ∙ ap (λ (call : Call). outcome call b (x .lent) .reply) f in
-      subst (λ (call : Call). Added m k s (rowStep m s call (unpacked (x .answer)) row) e c (unpacked (x .answer))) (sym f)
-      (subst (λ (r : Reply). Added m k s (rowStep m s (add e c) r row) e c r) (sym t) (add-claim m k s row b st e c (x .lent)))
+      let t = told-of x p (add e c) f in
+      subst (λ (call : Call). Added m k s (rowStep m s call (unpacked (x .answer)) (x .store) row) e c (unpacked (x .answer))) (sym f)
+      (subst₂ (λ (r : Reply) (y : Word). Added m k s (rowStep m s (add e c) r y row) e c r) (sym (t .reply)) (sym (t .store)) (add-claim m k s row b st e c (x .lent)))
 
   removal-claim : (x : Step) → Keeps b x → (e : End) → x .call ≡ remove e → Removed m s row e (unpacked (x .answer))
   removal-claim x p e f =
-      let t : unpacked (x .answer) ≡ outcome (remove e) b (x .lent) .reply = came x p .reply ∙ ap (λ (call : Call). outcome call b (x .lent) .reply) f in
-      subst (λ (r : Reply). Removed m s row e r) (sym t) (remove-claim m k s row b st e (x .lent))
+      subst (λ (r : Reply). Removed m s row e r) (sym (told-of x p (remove e) f .reply)) (remove-claim m k s row b st e (x .lent))
+
+  turning-claim : (x : Step) → Keeps b x → (way : Reading) → x .call ≡ turn way
+      → Turned m (readingNumber way) k s row (rowStep m s (x .call) (unpacked (x .answer)) (x .store) row) b (x .store) (unpacked (x .answer))
+  turning-claim x p way f =
+      let t = told-of x p (turn way) f in
+      subst (λ (call : Call). Turned m (readingNumber way) k s row (rowStep m s call (unpacked (x .answer)) (x .store) row) b (x .store) (unpacked (x .answer))) (sym f)
+      (subst₂ (λ (r : Reply) (y : Word). Turned m (readingNumber way) k s row (rowStep m s (turn way) r y row) b y r) (sym (t .reply)) (sym (t .store)) (turn-claim m k s row b st way (x .lent)))
 
   refused-claim : (x : Step) → Keeps b x → (refusalIn (x .answer) ≡ 0 → ⊥) → (unpacked (x .answer) ≡ refusedWith (refusalIn (x .answer))) × (x .store ≡ b) × (x .after ≡ x .lent)
   unfolding refusedOutcome
@@ -193,7 +221,7 @@ module _ (m k : ℕ) (s : Word) (row : Word → ℕ) (b : Word) (st : State m k 
       let e = refused-outcome x p h in
       (came x p .reply ∙ ap (λ (o : Outcome). o .reply) e, refused-store x p h, came x p .lent ∙ ap (λ (o : Outcome). o .lent) e)
 
-  call-claim : (x : Step) → Keeps b x → Called m k s row (rowStep m s (x .call) (unpacked (x .answer)) row) b x
+  call-claim : (x : Step) → Keeps b x → Called m k s row (rowStep m s (x .call) (unpacked (x .answer)) (x .store) row) b x
   call-claim x p =
       record {
         number-is = answered-number x p ∙ ap (λ (n : ℕ). refusal (ruleIn n) (viewIn b (x .lent)) (x .call)) (st .reading);
@@ -202,6 +230,7 @@ module _ (m k : ℕ) (s : Word) (row : Word → ℕ) (b : Word) (st : State m k 
         question-leaves = λ q e. asked-store x q e p;
         addition = addition-claim x p;
         removal = removal-claim x p;
+        turning = turning-claim x p;
         kept = kept-claim x p;
       }
 
@@ -210,7 +239,7 @@ module _ (m k : ℕ) (s : Word) (row : Word → ℕ) (b : Word) (st : State m k 
   undone-steps : (e : End) (c : ℕ) (x y : Step) → x .call ≡ add e c → Keeps b x → refusalIn (x .answer) ≡ 0 → y .call ≡ remove e → Keeps (x .store) y → Undone b c x y
   unfolding Stated unpacked
   undone-steps e c x y f p z g q =
-      let t : Told (outcome (add e c) b (x .lent)) (x .answer) (x .store) (x .after) = subst (λ (call : Call). Told (outcome call b (x .lent)) (x .answer) (x .store) (x .after)) f (came x p) in
+      let t = told-of x p (add e c) f in
       let n : outcome (add e c) b (x .lent) .reply .number ≡ 0 = ap (λ (r : Reply). r .number) (sym (t .reply)) ∙ z in
       let good = good-now m k s row b st e c (x .lent) (y .lent) n in
       let back = undone-claim m k s row b st e c (x .lent) (y .lent) n in
@@ -228,36 +257,30 @@ module _ (m k : ℕ) (s : Word) (row : Word → ℕ) (b : Word) (st : State m k 
 -- ---- the list
 
 module _ (m k : ℕ) (b : Word) (start : State m k [] (λ w. zero) b) where
-  state : {xs : List Step} → Run b xs → State m k (lettersAfter k xs) (λ w. rowAfter m k xs w) (storeAfter b xs)
-  unfolding lettersAfter rowAfter storeAfter
+  state : {xs : List Step} → Run b xs → State (readingAfter m xs) k (lettersAfter k xs) (λ w. rowAfter m k xs w) (storeAfter b xs)
+  unfolding lettersAfter readingAfter rowAfter storeAfter
   state begun = start
-  state (called {xs = xs} r x p) = next-state m k (lettersAfter k xs) (λ w. rowAfter m k xs w) (storeAfter b xs) (state r) x p
+  state (called {xs = xs} r x p) = next-state (readingAfter m xs) k (lettersAfter k xs) (λ w. rowAfter m k xs w) (storeAfter b xs) (state r) x p
 
   each-call : {xs : List Step} → Run b xs → EachCall m k b xs
   unfolding EachCall rowAfter
   each-call begun = tt
-  each-call (called {xs = xs} r x p) = (call-claim m k (lettersAfter k xs) (λ w. rowAfter m k xs w) (storeAfter b xs) (state r) x p, each-call r)
+  each-call (called {xs = xs} r x p) = (call-claim (readingAfter m xs) k (lettersAfter k xs) (λ w. rowAfter m k xs w) (storeAfter b xs) (state r) x p, each-call r)
 
   claims : {xs : List Step} → Run b xs → Claims m k b xs
   claims {xs} r =
       let st = state r in
       record {
-        shown = shown m k (lettersAfter k xs) (λ w. rowAfter m k xs w) (storeAfter b xs) st;
-        table = table m k (lettersAfter k xs) (λ w. rowAfter m k xs w) (storeAfter b xs) st;
+        shown = shown (readingAfter m xs) k (lettersAfter k xs) (λ w. rowAfter m k xs w) (storeAfter b xs) st;
+        table = table (readingAfter m xs) k (lettersAfter k xs) (λ w. rowAfter m k xs w) (storeAfter b xs) st;
         each = each-call r;
-        undone = undone-steps m k (lettersAfter k xs) (λ w. rowAfter m k xs w) (storeAfter b xs) st;
+        undone = undone-steps (readingAfter m xs) k (lettersAfter k xs) (λ w. rowAfter m k xs w) (storeAfter b xs) st;
       }
 
 -- ---- from the opening
 
--- bytes stay bytes where zeros are set
-zeros-bytes : (n at : ℕ) (b : Word) → Bytes b → Bytes (sets b at (replicate n 0))
-zeros-bytes zero at b h = h
-zeros-bytes (suc n) at b h = zeros-bytes n (suc at) (set b at 0) (bytes-set b at 0 h (omega arith))
-
 -- the state right after an accepted opening, in either reading
 opened-state : (way : Reading) (k : ℕ) (b₀ : Word) → Bytes b₀ → (1 ≤ k) × (k ≤ 1024) × (storeSize k ≤ length b₀) → State (readingNumber way) k [] (λ w. zero) (opened (readingNumber way) k b₀)
-unfolding opened
 opened-state way k b₀ h r =
     let m = number-below way in
     record {
@@ -266,7 +289,7 @@ opened-state way k b₀ h r =
       reading = opened-reading (readingNumber way) k b₀ m (r .1) (r .2);
       letters = opened-letters (readingNumber way) k b₀ m (r .1) (r .2);
       rows = λ w p q. absurd (p .non-empty (stands-of-empty q));
-      bytes = bytes-writes (openingWrites (readingNumber way) k) (sets b₀ 0 (replicate (usedBytes k) 0)) (zeros-bytes (usedBytes k) 0 b₀ h);
+      bytes = opened-bytes (readingNumber way) k b₀ h;
     }
 
 -- an opening that answers 0 was accepted, and leaves what `opened` says

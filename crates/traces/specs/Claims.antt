@@ -1,6 +1,6 @@
--- DEFINITIONS. What is claimed of every list of calls: 01 "Lists of calls, for demand 3", the three points with their negative halves, and that the store
--- stays good. All of it is said of what a host has in hand: arguments, lent bytes, and the fields of the answers. m is the reading of the record, k its
--- capacity, s the letters, row the rows of their repeats and b the store. Nothing here is proved.
+-- DEFINITIONS. What is claimed of every list of calls: 01 "Lists of calls, for demand 3", the three points with their negative halves, 02 (vii) on changes of the
+-- reading, and that the store stays good. All of it is said of what a host has in hand: arguments, lent bytes, and the fields of the answers. m is the reading of
+-- the record, k its capacity, s the letters, row the rows of their repeats and b the store. Nothing here is proved.
 use Prim.Native.Nat.{ℕ, _+_, _≤_}
 use mathlib.Core.Path.{_≡_}
 use mathlib.Core.Bool.{Bool, true, false, _&&_, not}
@@ -9,18 +9,19 @@ use lib.Dec.{ltb}
 use lib.ListN.{length}
 use Rattle.palindromes.specs.Word.{Word, isLetter, allLetters}
 use Rattle.palindromes.specs.Palindrome.{Palindrome}
-use Rattle.palindromes.specs.Reading.{ruleIn}
+use Rattle.palindromes.specs.Reading.{Reading, readingNumber, ruleIn}
 use Rattle.palindromes.specs.Place.{Stands, stands, standsOnce}
-use Rattle.palindromes.specs.End.{End, added, removed, letterAt, longestAt, newIn}
+use Rattle.palindromes.specs.Record.{palindromes}
+use Rattle.palindromes.specs.End.{End, added, removed, letterAt, longestAt, notAmong, newIn}
 use Rattle.palindromes.specs.Node.{Node, imaginary, spelt, linkOf, innerOf}
-use Rattle.palindromes.specs.Refusal.{Question, theRow, spell, find, add, remove, ask, refusal}
+use Rattle.palindromes.specs.Refusal.{Question, theRow, spell, find, add, remove, turn, ask, refusal}
 use Rattle.eertree.specs.Entries.{IsEertree}
 use Rattle.store.specs.Layout.{capacityIn, readingIn, lettersIn}
 use Rattle.store.specs.Good.{tableIn, nodeIn, Good}
 use Rattle.outcome.specs.Reply.{Reply, refusedWith, accepted, refusalIn, unpacked}
 use Rattle.outcome.specs.Outcome.{Lent, viewIn}
 use Rattle.outcome.specs.Promise.{Promise}
-use Rattle.traces.specs.Run.{Step, Keeps, storeAfter, lettersStep, lettersAfter, rowAfter}
+use Rattle.traces.specs.Run.{Step, Keeps, storeAfter, lettersStep, lettersAfter, readingStep, readingAfter, rowAfter}
 
 -- ---- questions
 
@@ -90,6 +91,19 @@ pub record Removed (m : ℕ) (s : Word) (row : Word → ℕ) (e : End) (r : Repl
   pub old-row : r .flag ≡ true → r .row ≡ row (longestAt (ruleIn m) e s)
   pub no-row : r .flag ≡ false → r .row ≡ 0
 
+-- a turn to the reading n that answers r, from the reading m and the store b to the store b′; row are the rows before it and row′ those after. It is always accepted,
+-- and answers zero throughout. To the reading in force it leaves every byte and every row. To the other one it brings in every repeat of that reading, each with the row
+-- that find answers right after it, and takes out every one of the old: no repeat stands before and after, so none keeps its row, and find answers absent for
+-- those of the old reading
+pub record Turned (m n k : ℕ) (s : Word) (row row′ : Word → ℕ) (b b′ : Word) (r : Reply) : Type 0 where
+  pub accepted-zero : r ≡ accepted false 0 0 0
+  pub in-force : m ≡ n → (b′ ≡ b) × ((w : Word) → row′ w ≡ row w)
+  pub comes-in : (m ≡ n → ⊥) → notAmong (palindromes (ruleIn m) s) (palindromes (ruleIn n) s) ≡ palindromes (ruleIn n) s
+  pub goes-out : (m ≡ n → ⊥) → notAmong (palindromes (ruleIn n) s) (palindromes (ruleIn m) s) ≡ palindromes (ruleIn m) s
+  pub new-rows : Table n k s row′ b′
+  pub none-kept : (m ≡ n → ⊥) → (w : Word) → Palindrome (ruleIn m) w → Stands w s → Palindrome (ruleIn n) w → ⊥
+  pub old-absent : (m ≡ n → ⊥) → (w : Word) → Palindrome (ruleIn m) w → Stands w s → Replies (find w) b′ (accepted false 0 0 0)
+
 -- a repeat that stands before and after a call keeps its row, and the row's length, link and inner row: find answers the same number on both stores, and so
 -- does the row question for that row, whose answer holds the three
 pub record Kept (w : Word) (row row′ : Word → ℕ) (b b′ : Word) : Type 0 where
@@ -97,7 +111,7 @@ pub record Kept (w : Word) (row row′ : Word → ℕ) (b b′ : Word) : Type 0 
   pub same-found : SameAnswer (find w) b b′
   pub same-fields : SameAnswer (theRow (row w)) b b′
 
--- any call x, where b is the store before it, s the letters, row the rows before and row′ those after. It answers the number of the table of numbers for
+-- any call x, where b is the store before it, m the reading, s the letters, row the rows before and row′ those after. It answers the number of the table of numbers for
 -- what it meets; a refused one, and every question, leaves the store, and a refused one the buffers too
 pub record Called (m k : ℕ) (s : Word) (row row′ : Word → ℕ) (b : Word) (x : Step) : Type 0 where
   pub number-is : refusalIn (x .answer) ≡ refusal (ruleIn m) (viewIn b (x .lent)) (x .call)
@@ -106,13 +120,16 @@ pub record Called (m k : ℕ) (s : Word) (row row′ : Word → ℕ) (b : Word) 
   pub question-leaves : (q : Question) → x .call ≡ ask q → x .store ≡ b
   pub addition : (e : End) (c : ℕ) → x .call ≡ add e c → Added m k s row′ e c (unpacked (x .answer))
   pub removal : (e : End) → x .call ≡ remove e → Removed m s row e (unpacked (x .answer))
-  pub kept : (w : Word) → Palindrome (ruleIn m) w → Stands w s → Stands w (lettersStep k s (x .call)) → Kept w row row′ b (x .store)
+  pub turning : (way : Reading) → x .call ≡ turn way → Turned m (readingNumber way) k s row row′ b (x .store) (unpacked (x .answer))
+  pub kept :
+      (w : Word) → Palindrome (ruleIn m) w → Stands w s → Palindrome (ruleIn (readingStep m (x .call))) w → Stands w (lettersStep k s (x .call))
+      → Kept w row row′ b (x .store)
 
 -- the first point: of every call of the list, with the calls before it
 unfoldable pub EachCall : ℕ → ℕ → Word → List Step → Type 0
 EachCall m k b [] = Unit {0}
 EachCall m k b (x ∷ xs) =
-    Called m k (lettersAfter k xs) (λ w. rowAfter m k xs w) (λ w. rowAfter m k (x ∷ xs) w) (storeAfter b xs) x × EachCall m k b xs
+    Called (readingAfter m xs) k (lettersAfter k xs) (λ w. rowAfter m k xs w) (λ w. rowAfter m k (x ∷ xs) w) (storeAfter b xs) x × EachCall m k b xs
 
 -- ---- an addition undone
 
@@ -128,8 +145,8 @@ pub record Undone (b : Word) (c : ℕ) (first second : Step) : Type 0 where
 
 -- all that is claimed of the list xs, on the store b that an opening of capacity k left in the reading m
 pub record Claims (m k : ℕ) (b : Word) (xs : List Step) : Type 0 where
-  pub shown : Shown m k (lettersAfter k xs) (storeAfter b xs)
-  pub table : Table m k (lettersAfter k xs) (λ w. rowAfter m k xs w) (storeAfter b xs)
+  pub shown : Shown (readingAfter m xs) k (lettersAfter k xs) (storeAfter b xs)
+  pub table : Table (readingAfter m xs) k (lettersAfter k xs) (λ w. rowAfter m k xs w) (storeAfter b xs)
   pub each : EachCall m k b xs
   pub undone :
       (e : End) (c : ℕ) (x y : Step) → x .call ≡ add e c → Keeps (storeAfter b xs) x → refusalIn (x .answer) ≡ 0 → y .call ≡ remove e → Keeps (x .store) y

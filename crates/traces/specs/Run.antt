@@ -1,18 +1,18 @@
--- DEFINITIONS. Lists of calls from an opening, as a host sees them; the letters that follow from the calls' arguments alone, and the rows that follow from
--- their arguments and answers alone: 01 "Lists of calls, for demand 3". Nothing here is proved.
+-- DEFINITIONS. Lists of calls from an opening, as a host sees them; the letters and the reading that follow from the calls' arguments alone, and the rows that
+-- follow from their arguments and answers alone: 01 "Lists of calls, for demand 3", 02 (vii). Nothing here is proved.
 use Prim.Native.Nat.{ℕ, zero}
 use mathlib.Core.Path.{_≡_}
 use mathlib.Core.Bool.{cond, _&&_}
 use mathlib.Core.List.{List, [], _∷_}
-use lib.Dec.{ltb}
+use lib.Dec.{eqb, ltb}
 use lib.ListN.{length}
 use Rattle.palindromes.specs.Word.{Word, isLetter, sameWord}
-use Rattle.palindromes.specs.Reading.{ruleIn}
+use Rattle.palindromes.specs.Reading.{readingNumber, ruleIn}
 use Rattle.palindromes.specs.End.{added, removed, longestAt}
-use Rattle.palindromes.specs.Refusal.{Call, opening, add, remove, ask}
-use Rattle.outcome.specs.Reply.{Reply, refusalIn, unpacked}
-use Rattle.outcome.specs.Outcome.{Lent}
-use Rattle.outcome.specs.Promise.{Promise, OpeningPromise}
+use Rattle.palindromes.specs.Refusal.{find, Call, opening, add, remove, turn, ask}
+use Rattle.outcome.specs.Reply.{Reply, packed, refusalIn, rowIn, unpacked}
+use Rattle.outcome.specs.Outcome.{Lent, outcome}
+use Rattle.outcome.specs.Promise.{nothing, Promise, OpeningPromise}
 
 -- one call of a host: the call with its arguments, the buffers that it was lent beside the store, the number that it answered, and the store and the
 -- buffers after it
@@ -29,6 +29,7 @@ unfoldable pub Stated : Call → Word → Lent → ℕ → Word → Lent → Typ
 Stated (opening way k) b l a b′ l′ = OpeningPromise way k b a b′ × (l′ ≡ l) × (refusalIn a ≡ 0 → ⊥)
 Stated (add e c) b l a b′ l′ = Promise (add e c) b l a b′ l′
 Stated (remove e) b l a b′ l′ = Promise (remove e) b l a b′ l′
+Stated (turn way) b l a b′ l′ = Promise (turn way) b l a b′ l′
 Stated (ask q) b l a b′ l′ = Promise (ask q) b l a b′ l′
 
 abbrev pub Keeps : Word → Step → Type 0
@@ -51,6 +52,7 @@ unfoldable pub lettersStep : ℕ → Word → Call → Word
 lettersStep k s (opening way n) = s
 lettersStep k s (add e c) = cond (isLetter c && ltb (length s) k) (added e c s) s
 lettersStep k s (remove e) = removed e s
+lettersStep k s (turn way) = s
 lettersStep k s (ask q) = s
 
 -- the letters after the list, in a store of capacity k, from the arguments alone
@@ -58,15 +60,35 @@ unfoldable pub lettersAfter : ℕ → List Step → Word
 lettersAfter k [] = []
 lettersAfter k (x ∷ xs) = lettersStep k (lettersAfter k xs) (x .call)
 
--- the row of a repeat after one more call, in the reading m: an addition that answers 1 brings in the longest repeat at its end, with the row that it
--- answers
-unfoldable pub rowStep : ℕ → Word → Call → Reply → (Word → ℕ) → Word → ℕ
-rowStep m s (opening way n) r old w = old w
-rowStep m s (add e c) r old w = cond (r .flag && sameWord w (longestAt (ruleIn m) e (added e c s))) (r .row) (old w)
-rowStep m s (remove e) r old w = old w
-rowStep m s (ask q) r old w = old w
+-- the reading after one more call: 02 (vii) "two calls, one for each reading, turn a good store to that reading"; every other call leaves it
+unfoldable pub readingStep : ℕ → Call → ℕ
+readingStep m (opening way n) = m
+readingStep m (add e c) = m
+readingStep m (remove e) = m
+readingStep m (turn way) = readingNumber way
+readingStep m (ask q) = m
 
--- 01 "the row that it got from the last call that brought it in (an addition's is the one it answered)", from the arguments and the answers alone
+-- the reading after the list, of a record that was opened in the reading m, from the arguments alone
+unfoldable pub readingAfter : ℕ → List Step → ℕ
+readingAfter m [] = m
+readingAfter m (x ∷ xs) = readingStep (readingAfter m xs) (x .call)
+
+-- the row that find answers for a piece on the store b: `mirror_row_of` of its number
+unfoldable pub rowFound : Word → Word → ℕ
+rowFound b w = rowIn (packed (outcome (ask (find w)) b nothing .reply))
+
+-- the row of a repeat after one more call, where m is the reading before it and b the store that it left: an addition that answers 1 brings in the longest
+-- repeat at its end, with the row that it answers. 02 (vii) "a change to the other reading counts as bringing in every repeat of the new reading, each with the row
+-- that find answers right after it"; one to the reading in force brings in none
+unfoldable pub rowStep : ℕ → Word → Call → Reply → Word → (Word → ℕ) → Word → ℕ
+rowStep m s (opening way n) r b old w = old w
+rowStep m s (add e c) r b old w = cond (r .flag && sameWord w (longestAt (ruleIn m) e (added e c s))) (r .row) (old w)
+rowStep m s (remove e) r b old w = old w
+rowStep m s (turn way) r b old w = cond (eqb m (readingNumber way)) (old w) (rowFound b w)
+rowStep m s (ask q) r b old w = old w
+
+-- 01 "the row that it got from the last call that brought it in (an addition's is the one it answered)", from the arguments and the answers alone: find's are its
+-- answers too. m is the reading of the opening
 unfoldable pub rowAfter : ℕ → ℕ → List Step → Word → ℕ
 rowAfter m k [] w = zero
-rowAfter m k (x ∷ xs) w = rowStep m (lettersAfter k xs) (x .call) (unpacked (x .answer)) (λ v. rowAfter m k xs v) w
+rowAfter m k (x ∷ xs) w = rowStep (readingAfter m xs) (lettersAfter k xs) (x .call) (unpacked (x .answer)) (x .store) (λ v. rowAfter m k xs v) w

@@ -17,3 +17,4 @@ pub mod RemovedOrder
 pub mod RemovedTable
 pub mod Removed
 pub mod Undone
+pub mod Turned

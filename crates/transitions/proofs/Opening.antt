@@ -9,7 +9,7 @@ use mathlib.Core.Bool.{true, false, cond, _&&_, and-false}
 use mathlib.Core.Logic.{_⊎_, inl, inr}
 use mathlib.Core.List.{[], _∷_, _++_}
 use lib.Dec.{eqb}
-use lib.ListN.{length, getD, drop, take, replicate, length-replicate, getD-replicate, List·getD-append}
+use lib.ListN.{length, getD, set, drop, take, replicate, length-replicate, getD-replicate, List·getD-append}
 use lib.IntN.{pos, predℤ}
 use lib.Seq.{sets, sets-eq, length-sets, drop-at}
 use borrow.Author.Tests.{eq-eqb, ne-eqb}
@@ -26,9 +26,11 @@ use Rattle.store.specs.Writes.{write}
 use Rattle.store.specs.Good.{ruleOf, tableIn, nodeIn, Sized, OrderIs, RankIs, EndIs, Good}
 use Rattle.store.proofs.Writes.{Fitting, look, RowsBelow, cell-writes, length-writes, drop-writes, getD-writes}
 use Rattle.store.proofs.Edges.{edge-low, edge-high}
+use Rattle.transitions.specs.Bytes.{Bytes}
 use Rattle.transitions.specs.Opening.{usedBytes, orderWrites, headWrites, openingWrites, opened}
 use Rattle.transitions.proofs.Rows.{used-root, used-rank}
 use Rattle.transitions.proofs.Runs.{look-append, fitting-append, below-append}
+use Rattle.transitions.proofs.AddedRuns.{bytes-set, bytes-writes}
 use Rattle.transitions.proofs.Start.{Roots, roots-cover, roots-end}
 
 -- ---- the order of the rows
@@ -89,6 +91,15 @@ cleared k b = sets b 0 (replicate (usedBytes k) 0)
 pub opened-length : (m k : ℕ) (b : Word) → length (opened m k b) ≡ length b
 unfolding opened
 opened-length m k b = length-writes (cleared k b) (openingWrites m k) ∙ length-sets b 0 (replicate (usedBytes k) 0)
+
+-- and leaves bytes
+zeros-bytes : (n at : ℕ) (b : Word) → Bytes b → Bytes (sets b at (replicate n 0))
+zeros-bytes zero at b h = h
+zeros-bytes (suc n) at b h = zeros-bytes n (suc at) (set b at 0) (bytes-set b at 0 h (omega arith))
+
+pub opened-bytes : (m k : ℕ) (b : Word) → Bytes b → Bytes (opened m k b)
+unfolding opened
+opened-bytes m k b h = bytes-writes (openingWrites m k) (cleared k b) (zeros-bytes (usedBytes k) 0 b h)
 
 module _ (m k : ℕ) (b : Word) (reading : m < 2) (high : k ≤ 1024) (long : storeSize k ≤ length b) where
   -- the bytes in use, and the rows, lie within the store

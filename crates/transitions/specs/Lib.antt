@@ -3,3 +3,4 @@ pub mod Rows
 pub mod Opening
 pub mod Addition
 pub mod Removal
+pub mod Turning

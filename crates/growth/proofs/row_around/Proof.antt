@@ -12,7 +12,7 @@ use Rattle.growth.proofs.row_around.Statement.{statement}
 use Rattle.growth.proofs.row_around.Tie as tie
 
 length-of-requires : tie.Need-length-of-requires
-length-of-requires c κs = used-fits (c .before .pre .0) (c .before .args .u) (c .before .pre .1 .1 .0)
+length-of-requires c κs = used-fits (c .before .pre .0) (c .before .args .u) (c .before .pre .1 .1 .1 .0)
 
 -- the new length
 grown : (c : tie.After-plus-two) → c .plus-two .result ≡ predℤ (pos (cell (c .before .before .before .args .b .now) (c .before .before .before .args .u) 0 + 2))
@@ -24,13 +24,13 @@ grown c =
 written : (c : tie.After-fresh) → c .fresh .result .length ≡ c .before .before .plus-two .result
 written c =
     let s = c .before .before .before .before .before in
-    c .fresh .ensures .0 ∙ kept (two-more (s .pre .0) (endOf (s .args .side)) (s .args .d) (s .args .u) (s .pre .1 .0) (s .pre .1 .1) (grown (c .before .before)))
+    c .fresh .ensures .0 ∙ kept (two-more (s .pre .0) (endOf (s .args .side)) (s .args .d) (s .args .u) (s .pre .1 .1 .0) (s .pre .1 .1 .1) (grown (c .before .before)))
 
 returns : tie.Need-returns
 returns c =
     let s = c .before .before .before .before .before in
     let f = c .fresh .ensures in
-    row-for (s .pre .0) (endOf (s .args .side)) (s .args .d) (s .args .u) (s .pre .1 .0) (s .pre .1 .1) (c .fresh .result) (written c ∙ grown (c .before .before)) (f .1) (f .2) (f .3) (c .before .link-around .ensures)
+    row-for (s .pre .0) (endOf (s .args .side)) (s .args .d) (s .args .u) (s .pre .1 .1 .0) (s .pre .1 .1 .1) (c .fresh .result) (written c ∙ grown (c .before .before)) (f .1) (f .2) (f .3) (c .before .link-around .ensures)
 
 pub row-around-spec : {M : Type 1} → statement M
 row-around-spec =
