@@ -83,10 +83,10 @@ module _ (way : Reading) where
 
 -- ---- the calls, on a plain record
 
-abbrev start : Word
+abbrev pub start : Word
 start = startIn asPlain
 
-abbrev more : List Step → Call → List Step
+abbrev pub more : List Step → Call → List Step
 more = moreIn asPlain
 
 pub with-G : List Step
@@ -126,7 +126,7 @@ calls = more A-tried (remove atRight)
 zero-refused : (b : Word) → refusal (ruleOf b) (viewIn b nothing) (opening asPlain 0) ≡ 0 → ⊥
 zero-refused b z = omega (arith, opening-capacity b nothing asPlain 0 refl)
 
-one-more : {xs : List Step} → Run start xs → (call : Call) → MayStand call (storeAfter start xs) nothing → Run start (more xs call)
+pub one-more : {xs : List Step} → Run start xs → (call : Call) → MayStand call (storeAfter start xs) nothing → Run start (more xs call)
 one-more r call h = one-more-in asPlain r call h
 
 run-to-CA : Run start with-CA
@@ -261,7 +261,7 @@ abbrev answered : List Step → Call → ℕ
 answered xs call = stepOf call (storeAfter start xs) nothing .answer
 
 -- what is claimed of a call that comes after the list, in the reading m
-abbrev ClaimedIn : ℕ → List Step → Call → Type 0
+abbrev pub ClaimedIn : ℕ → List Step → Call → Type 0
 ClaimedIn m xs call = Called m 3 (lettersAfter 3 xs) (λ w. rowAfter 0 3 xs w) (λ w. rowAfter 0 3 (more xs call) w) (storeAfter start xs) (stepOf call (storeAfter start xs) nothing)
 
 abbrev ClaimedOf : List Step → Call → Type 0

@@ -1,9 +1,9 @@
 -- A list of calls that changes the reading in the middle: A and T join the right end of a plain record, the record is turned to the inverted reading and once more to the same, and T joins at the right. What
 -- the theorem says of it: AT comes in with the turn and is found, A, which was a repeat until then, is absent, the second turn leaves every byte, and AT keeps its row.
-use Prim.Native.Nat.{ℕ, _≤_}
+use Prim.Native.Nat.{ℕ}
 use native.Mathlib.Omega.{arith}
-use mathlib.Core.Path.{_≡_, refl, sym, ap, subst}
-use mathlib.Core.Bool.{false}
+use mathlib.Core.Path.{_≡_, refl, sym, subst}
+use mathlib.Core.Bool.{true, false}
 use mathlib.Core.List.{List, [], _∷_, cons-ne-nil}
 use Rattle.palindromes.specs.Word.{Word, isLetter}
 use Rattle.palindromes.specs.Palindrome.{mirror, Palindrome}
@@ -11,19 +11,13 @@ use Rattle.palindromes.specs.Reading.{asPlain, asInverted, complement, readingN
 use Rattle.palindromes.specs.Place.{Stands}
 use Rattle.palindromes.specs.Record.{palindromes}
 use Rattle.palindromes.specs.End.{atRight, added, notAmong}
-use Rattle.palindromes.specs.Refusal.{Call, find, add, turn}
+use Rattle.palindromes.specs.Refusal.{find, add, turn}
 use Rattle.outcome.specs.Reply.{accepted, unpacked}
 use Rattle.outcome.specs.Promise.{nothing}
 use Rattle.traces.specs.Run.{Step, storeAfter, Run, begun, lettersStep, lettersAfter, readingStep, readingAfter, rowAfter}
-use Rattle.traces.specs.Claims.{Replies, Table, Turned, Kept, Called, EachCall, Claims}
+use Rattle.traces.specs.Claims.{Replies, Table, Turned, Kept, EachCall, Claims}
 use Rattle.traces.proofs.Possible.{stepOf}
-use Rattle.traces.proofs.Example.{startIn, moreIn, one-more-in, claims-of}
-
-abbrev start : Word
-start = startIn asPlain
-
-abbrev more : List Step → Call → List Step
-more = moreIn asPlain
+use Rattle.traces.proofs.Example.{start, more, one-more, claims-of, ClaimedIn}
 
 pub with-AT : List Step
 with-AT = more (more [] (add atRight 65)) (add atRight 84)
@@ -39,9 +33,7 @@ with-ATT = more again (add atRight 84)
 
 turned-run : Run start with-ATT
 unfolding with-ATT again inverted with-AT
-turned-run =
-    let one-more = one-more-in asPlain in
-    one-more (one-more (one-more (one-more (one-more begun (add atRight 65) tt) (add atRight 84) tt) (turn asInverted) tt) (turn asInverted) tt) (add atRight 84) tt
+turned-run = one-more (one-more (one-more (one-more (one-more begun (add atRight 65) tt) (add atRight 84) tt) (turn asInverted) tt) (turn asInverted) tt) (add atRight 84) tt
 
 pub turned-claims : Claims 0 3 start with-ATT
 unfolding readingNumber
@@ -76,3 +68,90 @@ inverted-still = refl
 inverted-after : readingAfter 0 with-ATT ≡ 1
 unfolding with-ATT readingAfter readingStep
 inverted-after = inverted-still
+
+-- ---- after the list: the repeats are those of the inverted reading
+
+abbrev end : Word
+end = storeAfter start with-ATT
+
+abbrev rowNow : Word → ℕ
+rowNow w = rowAfter 0 3 with-ATT w
+
+its-table : Table 1 3 (lettersAfter 3 with-ATT) rowNow end
+its-table = subst (λ (m : ℕ). Table m 3 (lettersAfter 3 with-ATT) rowNow end) inverted-after (turned-claims .table)
+
+AT-repeat : Palindrome (ruleIn 1) (65 ∷ 84 ∷ [])
+unfolding mirror ruleIn complement
+AT-repeat = record { non-empty = cons-ne-nil 65 (84 ∷ []); symmetric = refl }
+
+AT-stands : Stands (65 ∷ 84 ∷ []) (lettersAfter 3 with-ATT)
+AT-stands = record { before = []; after = 84 ∷ []; whole = sym letters-ATT }
+
+-- AT is found, in the row that it has had since the turn
+pub AT-found : Replies (find (65 ∷ 84 ∷ [])) end (accepted true (rowNow (65 ∷ 84 ∷ [])) 0 0)
+AT-found = its-table .found (65 ∷ 84 ∷ []) AT-repeat AT-stands
+
+-- ---- the turn, and the one to the reading that is then in force
+
+of-turn : ClaimedIn 0 with-AT (turn asInverted)
+unfolding EachCall with-ATT again inverted
+of-turn = subst (λ (m : ℕ). ClaimedIn m with-AT (turn asInverted)) plain-before (turned-claims .each .1 .1 .0)
+
+of-second : ClaimedIn 1 inverted (turn asInverted)
+unfolding EachCall with-ATT again
+of-second = subst (λ (m : ℕ). ClaimedIn m inverted (turn asInverted)) inverted-then (turned-claims .each .1 .0)
+
+abbrev turn-step : Step
+turn-step = stepOf (turn asInverted) (storeAfter start with-AT) nothing
+
+abbrev second-step : Step
+second-step = stepOf (turn asInverted) (storeAfter start inverted) nothing
+
+of-turned : Turned 0 1 3 (lettersAfter 3 with-AT) (λ w. rowAfter 0 3 with-AT w) (λ w. rowAfter 0 3 (more with-AT (turn asInverted)) w) (storeAfter start with-AT) (turn-step .store) (unpacked (turn-step .answer))
+unfolding readingNumber
+of-turned = of-turn .turning asInverted refl
+
+differ : _≡_ {A = ℕ} 0 1 → ⊥
+differ e = omega arith
+
+-- it answers zero throughout
+pub turn-answers-zero : unpacked (turn-step .answer) ≡ accepted false 0 0 0
+turn-answers-zero = of-turned .accepted-zero
+
+-- it brings in AT alone, which is all that is a repeat of A and T in the inverted reading, and takes out A and T
+pub AT-came : notAmong (palindromes (ruleIn 0) (lettersAfter 3 with-AT)) (palindromes (ruleIn 1) (lettersAfter 3 with-AT)) ≡ palindromes (ruleIn 1) (lettersAfter 3 with-AT)
+AT-came = of-turned .comes-in differ
+
+pub A-and-T-went : notAmong (palindromes (ruleIn 1) (lettersAfter 3 with-AT)) (palindromes (ruleIn 0) (lettersAfter 3 with-AT)) ≡ palindromes (ruleIn 0) (lettersAfter 3 with-AT)
+A-and-T-went = of-turned .goes-out differ
+
+-- find answers A absent right after it, though A stands and was a repeat until then
+A-was : Palindrome (ruleIn 0) (65 ∷ [])
+unfolding mirror ruleIn
+A-was = record { non-empty = cons-ne-nil 65 []; symmetric = refl }
+
+A-stood : Stands (65 ∷ []) (lettersAfter 3 with-AT)
+A-stood = record { before = []; after = 84 ∷ []; whole = sym letters-AT }
+
+pub A-absent : Replies (find (65 ∷ [])) (turn-step .store) (accepted false 0 0 0)
+A-absent = of-turned .old-absent differ (65 ∷ []) A-was A-stood
+
+-- and AT found, with the row that the ledger has from then on
+AT-then : Stands (65 ∷ 84 ∷ []) (lettersAfter 3 with-AT)
+AT-then = record { before = []; after = []; whole = sym letters-AT }
+
+pub AT-right-after : Replies (find (65 ∷ 84 ∷ [])) (turn-step .store) (accepted true (rowAfter 0 3 (more with-AT (turn asInverted)) (65 ∷ 84 ∷ [])) 0 0)
+AT-right-after = of-turned .new-rows .found (65 ∷ 84 ∷ []) AT-repeat AT-then
+
+-- the second turn leaves every byte, and AT in its row
+pub second-leaves : second-step .store ≡ storeAfter start inverted
+unfolding readingNumber
+second-leaves = of-second .turning asInverted refl .in-force refl .0
+
+AT-standing : Stands (65 ∷ 84 ∷ []) (lettersAfter 3 inverted)
+unfolding inverted lettersAfter lettersStep
+AT-standing = AT-then
+
+pub AT-kept : Kept (65 ∷ 84 ∷ []) (λ w. rowAfter 0 3 inverted w) (λ w. rowAfter 0 3 (more inverted (turn asInverted)) w) (storeAfter start inverted) (second-step .store)
+unfolding readingStep lettersStep readingNumber
+AT-kept = of-second .kept (65 ∷ 84 ∷ []) AT-repeat AT-standing AT-repeat AT-standing

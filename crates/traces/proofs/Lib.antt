@@ -10,3 +10,4 @@ pub mod Theorem
 pub mod Possible
 pub mod Example
 pub mod ExampleInverted
+pub mod ExampleTurned

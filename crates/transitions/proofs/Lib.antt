@@ -18,3 +18,4 @@ pub mod RemovedTable
 pub mod Removed
 pub mod Undone
 pub mod Turned
+pub mod TurnedRows

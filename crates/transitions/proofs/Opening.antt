@@ -156,7 +156,7 @@ module _ (m k : ℕ) (b : Word) (reading : m < 2) (high : k ≤ 1024) (long : st
       opened-head r f h (omega arith) (inr l) ∙ cc (z, o, and-false (eqb 8 f), and-false (eqb 11 f), and-false (eqb 0 f), and-false (eqb 9 f))
 
   -- place i of the order
-  opened-order : (i : ℕ) → i < k → orderIn (opened m k b) i ≡ i + 2
+  pub opened-order : (i : ℕ) → i < k → orderIn (opened m k b) i ≡ i + 2
   unfolding orderIn
   opened-order i h = opened-cell (i + 2) 8 (omega arith) (omega arith) ∙ order-holds k i (look (headWrites m k) (i + 2) 8 0) h .0
 
@@ -181,7 +181,7 @@ module _ (m k : ℕ) (b : Word) (reading : m < 2) (high : k ≤ 1024) (long : st
   unfolding sizeIn
   opened-size = opened-root 0 9 (omega arith) (omega arith)
 
-  opened-count : countIn (opened m k b) ≡ 0
+  pub opened-count : countIn (opened m k b) ≡ 0
   unfolding countIn
   opened-count = opened-root 0 10 (omega arith) (omega arith)
 
