@@ -31,7 +31,7 @@ struct line {
 /* What a call takes, how it is made, and its accepted answer in words. */
 struct form {
     const char *name;
-    enum { NOTHING, NUMBER, END, MAYBE_END, LETTER_AND_END, MAYBE_TEXT } takes;
+    enum { NOTHING, NUMBER, END, MAYBE_END, LETTER_AND_END, READING, MAYBE_TEXT } takes;
     const char *usage;
     uint64_t (*make)(const struct line *);
     void (*say)(const struct line *, uint64_t answer);
@@ -59,7 +59,12 @@ static uint64_t longest_at(int left)
 static uint64_t make_open(const struct line *l) { return mirror_open(store, sizeof store, l->number); }
 static uint64_t make_open_inverted(const struct line *l) { return mirror_open_inverted(store, sizeof store, l->number); }
 
-static void say_open(const struct line *l, uint64_t answer)
+static uint64_t make_turn(const struct line *l)
+{
+    return (strcmp(l->words[1], "plain") == 0 ? mirror_turn_plain : mirror_turn_inverted)(store, sizeof store);
+}
+
+static void say_done(const struct line *l, uint64_t answer)
 {
     (void)l, (void)answer;
     printf("done");
@@ -172,8 +177,9 @@ static void say_list(const struct line *l, uint64_t answer)
 }
 
 static const struct form forms[] = {
-    {"open", NUMBER, "open CAPACITY", make_open, say_open},
-    {"open-inverted", NUMBER, "open-inverted CAPACITY", make_open_inverted, say_open},
+    {"open", NUMBER, "open CAPACITY", make_open, say_done},
+    {"open-inverted", NUMBER, "open-inverted CAPACITY", make_open_inverted, say_done},
+    {"turn", READING, "turn plain, turn inverted", make_turn, say_done},
     {"add", LETTER_AND_END, "add LETTER left, add LETTER right", make_add, say_add},
     {"remove", END, "remove left, remove right", make_remove, say_remove},
     {"length", NOTHING, "length", make_length, say_number},
@@ -236,6 +242,16 @@ static int end(struct line *l, size_t words)
     return l->left || strcmp(l->words[words - 1], "right") == 0;
 }
 
+static int names_reading(const struct line *l)
+{
+    return strcmp(l->words[1], "plain") == 0 || strcmp(l->words[1], "inverted") == 0;
+}
+
+static int opens(const struct form *form)
+{
+    return form->make == make_open || form->make == make_open_inverted;
+}
+
 static int fits(struct line *l, size_t words)
 {
     switch (l->form->takes) {
@@ -244,6 +260,7 @@ static int fits(struct line *l, size_t words)
     case END: return words == 2 && end(l, words);
     case MAYBE_END: return words == 1 || (words == 2 && end(l, words));
     case LETTER_AND_END: return words == 3 && strlen(l->words[1]) == 1 && end(l, words);
+    case READING: return words == 2 && names_reading(l);
     default: return words <= 2; /* MAYBE_TEXT */
     }
 }
@@ -292,7 +309,7 @@ static size_t read_lines(char *line, char *end, struct line *lines)
         } else {
             if ((words = cut(line, l, at)) == 0) continue;
             read_call(l, words, at);
-            if (calls++ == 0 && l->form->say != say_open) stop(", line %zu: a call before the opening", at);
+            if (calls++ == 0 && !opens(l->form)) stop(", line %zu: a call before the opening", at);
         }
         n++;
     }

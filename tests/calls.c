@@ -9,6 +9,8 @@ uint64_t call_make(const library *of, uint8_t *store, size_t length, const call 
     case ADD_RIGHT: return of->add_right(store, length, c->number);
     case REMOVE_LEFT: return of->remove_left(store, length);
     case REMOVE_RIGHT: return of->remove_right(store, length);
+    case TURN_PLAIN: return of->turn_plain(store, length);
+    case TURN_INVERTED: return of->turn_inverted(store, length);
     case LENGTH: return of->length(store, length);
     case COUNT: return of->count(store, length);
     case LONGEST: return of->longest(store, length);

@@ -4,7 +4,8 @@
 #include "library.h"
 
 /* In the order of library.h, so that a kind is the call's number there: the openings, of which OPEN + reading gives that
- * reading, then, from ADD_LEFT on, what tests its store: first what changes it and, from LENGTH on, the questions. */
+ * reading, then, from ADD_LEFT on, what tests its store: first what changes it, the turns last, of which TURN_PLAIN +
+ * reading gives that reading, and, from LENGTH on, the questions. */
 #define CALL_KIND(kind, name) kind,
 typedef enum { EACH_OPENING(CALL_KIND) EACH_STORE_CALL(CALL_KIND) CALL_KINDS } call_kind;
 

@@ -28,11 +28,11 @@ static void stop(const char *kind, const char *what)
 static void make_good(unsigned reading)
 {
     unsigned capacity = random_below(20) ? 1 + random_below(random_below(2) ? 6 : 30) : 200 + random_below(825);
-    unsigned alphabet = 1 + random_below(4), turns = random_below(capacity < 100 ? 3 * capacity : 150), removing = random_below(50);
+    unsigned alphabet = 1 + random_below(4), steps = random_below(capacity < 100 ? 3 * capacity : 150), removing = random_below(50);
     good_length = MIRROR_STORE_SIZE(capacity) + random_below(3) * 7;
     for (size_t i = 0; i < good_length; i++) good[i] = (uint8_t)random_below(256);
     oracle_open(good, good_length, reading, capacity);
-    for (unsigned i = 0; i < turns; i++) {
+    for (unsigned i = 0; i < steps; i++) {
         unsigned letter = (unsigned)"ATCG"[random_below(alphabet)];
         if (random_below(100) < removing) (random_below(2) ? mirror_remove_left : mirror_remove_right)(good, good_length);
         else (random_below(2) ? mirror_add_left : mirror_add_right)(good, good_length, letter);
@@ -63,6 +63,7 @@ static void every_call(void)
         if (kind == SPELL) c.out_length = shows.size + random_below(3);
         if (kind == LIST) c.text = name, c.text_length = 5, c.scratch_length = scratch, c.out_length = out;
         one_call(&c);
+        if (kind >= REMOVE_LEFT && kind < LETTER) continue; /* no argument: it would be the same call again */
         c.number = kind <= ADD_RIGHT ? letter + 256 : 65536 + row;
         if (kind == FIND) c.text = bad_piece, c.text_length = 2 * random_below(2);
         if (kind == SPELL) c.number = row, c.out_length = 0;
@@ -71,12 +72,12 @@ static void every_call(void)
     }
 }
 
-/* a damaged store that is good is worked on like any other */
+/* a damaged store that is good is worked on like any other: additions, removals and turns */
 static void work_on(void)
 {
     uint8_t *store = guarded(STORE_SLOT, damaged, damaged_length);
     for (int i = 0; i < 6; i++) {
-        call c = {(call_kind)(ADD_LEFT + random_below(4)), (unsigned)"ACGT"[random_below(4)], NULL, 0, 0, 0};
+        call c = {(call_kind)(ADD_LEFT + random_below(LENGTH - ADD_LEFT)), (unsigned)"ACGT"[random_below(4)], NULL, 0, 0, 0};
         oracle(store, damaged_length, &c);
     }
 }

@@ -23,6 +23,8 @@ static void no_store(uint8_t *p)
     must("add_right", mirror_add_right(p, 0, 'A'), MIRROR_DAMAGED);
     must("remove_left", mirror_remove_left(p, 0), MIRROR_DAMAGED);
     must("remove_right", mirror_remove_right(p, 0), MIRROR_DAMAGED);
+    must("turn_plain", mirror_turn_plain(p, 0), MIRROR_DAMAGED);
+    must("turn_inverted", mirror_turn_inverted(p, 0), MIRROR_DAMAGED);
     must("length", mirror_length(p, 0), MIRROR_DAMAGED);
     must("count", mirror_count(p, 0), MIRROR_DAMAGED);
     must("longest", mirror_longest(p, 0), MIRROR_DAMAGED);

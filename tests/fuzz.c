@@ -5,8 +5,8 @@
  * The first byte gives the capacity and, from 128 on, an inverted record. Then: acgt add at the right, ACGT at the left,
  * < and > remove at an end, ? and a byte ask a question, ! and three bytes change a byte, = and three bytes set a cell, # and
  * two bytes do one of the kinds of damages.c, ~ takes the last good store again, / and a byte change the length lent, @ and a
- * byte open again, & and a byte open an inverted record. Any other byte is added as a letter that is none. A missing
- * argument is 0. */
+ * byte open again, & and a byte open an inverted record, p and i turn to the plain and to the inverted reading. Any other byte
+ * is added as a letter that is none. A missing argument is 0. */
 #include "damages.h"
 #include "guard.h"
 #include "oracle.h"
@@ -93,6 +93,8 @@ static void one(unsigned what)
     case 'A': case 'C': case 'G': case 'T': make(ADD_LEFT, what); break;
     case '<': make(REMOVE_LEFT, 0); break;
     case '>': make(REMOVE_RIGHT, 0); break;
+    case 'p': make(TURN_PLAIN, 0); break;
+    case 'i': make(TURN_INVERTED, 0); break;
     case '?': ask(); break;
     case '!': at = (next() * 256 + next()) % whole; store[at] = (uint8_t)next(); break;
     case '=': at = next() % 26; what = next(); layout_put(store, at % (whole / 48), what % ROW_CELLS, next()); break;
@@ -132,7 +134,7 @@ static void run(FILE *in)
 /* inputs that look random, mostly of bytes that mean something */
 static void run_random(const char *seed, int rounds)
 {
-    static const char meant[] = "acgtACGTacgtACGT<>?#~!=/@&";
+    static const char meant[] = "acgtACGTacgtACGT<>?#~!=/@&pi";
     uint8_t data[200];
     for (int i = 0; i < rounds; i++) {
         random_seed(NULL, strtoull(seed, NULL, 10) * 1000003u + 2u * (unsigned)i + 1);

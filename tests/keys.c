@@ -1,13 +1,14 @@
 /* The sittings with known keys of the scope, as its table has them, through the C boundary. Those without a star are
  * here only; the starred ones are proved (crates/known_answers) and run here too, at several capacities and built from either end.
- * A key is compared as it stands in the table, and no other program is asked. Beside the table: small letters are refused, and
- * the keys of inverted records that 02 (vi) and source 004 have. Keys that ask for no repeat are run with either opening. */
+ * A key is compared as it stands in the table, and no other program is asked. Beside the table: small letters are refused,
+ * the keys of inverted records that 02 (vi) and source 004 have, and records that are turned, 02 (vii). Keys that ask for no
+ * repeat are run with either opening. */
 #include "mirror.h"
 #include <stdio.h>
 #include <stdlib.h>
 #include <string.h>
 
-static uint8_t store[MIRROR_STORE_SIZE(1024)];
+static uint8_t store[MIRROR_STORE_SIZE(1024)], before[sizeof store];
 static size_t length;
 static unsigned long compared;
 static const char *sitting;
@@ -15,6 +16,9 @@ static const char *sitting;
 /* either opening of include/mirror.h */
 typedef uint64_t opening(uint8_t *, size_t, uint64_t);
 static opening *const openings[] = {mirror_open, mirror_open_inverted};
+/* the turn to each reading, in the order of the openings */
+typedef uint64_t turning(uint8_t *, size_t);
+static turning *const turns[] = {mirror_turn_plain, mirror_turn_inverted};
 
 static void key(const char *what, uint64_t wanted, uint64_t got)
 {
@@ -98,6 +102,11 @@ static void full(opening *open, const char *name, const char *period)
         key("add N right", 4, mirror_add_right(store, length, 'N'));
         key("add A left", 5, mirror_add_left(store, length, 'A'));
         key("add A right", 5, mirror_add_right(store, length, 'A'));
+        for (int reading = 1; reading >= 0; reading--) {
+            key("turn", 0, turns[reading](store, length));
+            key("length", 1024ull << 32, mirror_length(store, length));
+            key("add A left to the turned record", 5, mirror_add_left(store, length, 'A'));
+        }
     }
 }
 
@@ -173,9 +182,8 @@ static void listed(const char *lines)
 }
 
 /* 02 (vi): GAATTC has three repeats: AT, AATT and GAATTC */
-static void three_repeats(uint64_t capacity, int from_left)
+static void three_repeats(void)
 {
-    record(mirror_open_inverted, "GAATTC", capacity, from_left);
     key("count", 3, count());
     listed("e1\t2\t4\ne1\t1\t5\ne1\t0\t6\n");
     longest(6, 0);
@@ -189,6 +197,12 @@ static void three_repeats(uint64_t capacity, int from_left)
     key("nothing at the left: row 1", 1ull << 16, mirror_longest_left(store, length));
     goes(1, 'G', NULL);
     key("count", 2, count());
+}
+
+static void restriction_site(uint64_t capacity, int from_left)
+{
+    record(mirror_open_inverted, "GAATTC", capacity, from_left);
+    three_repeats();
 }
 
 /* letters that stand without a repeat */
@@ -227,6 +241,75 @@ static void nested_repeats(uint64_t capacity, int from_left)
     longest(10, 0);
 }
 
+/* ---- turns, 02 (vii) */
+
+/* a turn that must leave every byte, with this answer */
+static void stays(const char *what, turning *turn, uint64_t answer)
+{
+    memcpy(before, store, sizeof store);
+    key(what, answer, turn(store, length));
+    key("every byte stays", 0, memcmp(before, store, sizeof store) != 0);
+}
+
+/* the repeats have the rows from 2 on, in this order, and no other row is in use */
+static void numbered(const char *const *repeats, uint64_t n)
+{
+    for (uint64_t i = 0; i < n; i++) key(repeats[i], i + 2, row_of(repeats[i]));
+    key("count", n, count());
+    key("the next row is free", 7, mirror_row(store, length, n + 2));
+}
+
+/* GAATTC opened plain, turned and turned back: the repeats of a reading are numbered by where they first end, from whichever
+ * end the letters came; a turn to the reading in force moves nothing */
+static void there_and_back(uint64_t capacity, int from_left)
+{
+    static const char *const plain[] = {"G", "A", "AA", "T", "TT", "C"}, *const from_the_left[] = {"C", "T", "TT", "A", "AA", "G"};
+    static const char *const inverted[] = {"AT", "AATT", "GAATTC"};
+    record(mirror_open, "GAATTC", capacity, from_left);
+    stays("turn plain, in force", mirror_turn_plain, 0);
+    numbered(from_left ? from_the_left : plain, 6);
+    key("turn inverted", 0, mirror_turn_inverted(store, length));
+    numbered(inverted, 3);
+    stays("turn inverted, in force", mirror_turn_inverted, 0);
+    key("turn plain", 0, mirror_turn_plain(store, length));
+    numbered(plain, 6);
+    listed("e1\t0\t1\ne1\t1\t2\ne1\t1\t3\ne1\t3\t4\ne1\t3\t5\ne1\t5\t6\n");
+    key("AT is absent", 0, found("AT"));
+    key("turn inverted again", 0, mirror_turn_inverted(store, length));
+    three_repeats();
+}
+
+/* a store that is not good stays as it is: the reading's cell alone changed, a letter that is none, a byte too few */
+static void damaged(uint64_t capacity, int from_left)
+{
+    size_t reading = 22, last_letter = 24 * (capacity + 2) + 5; /* docs/LAYOUT.md */
+    record(mirror_open, "GAATTC", capacity, from_left);
+    for (size_t i = 0; i < sizeof turns / sizeof turns[0]; i++) {
+        store[reading] = 1;
+        stays("turn what was plain", turns[i], 3);
+        store[reading] = 0;
+        store[last_letter] = 'N';
+        stays("turn with an N", turns[i], 3);
+        store[last_letter] = 'C';
+        length--;
+        stays("turn what is too short", turns[i], 3);
+        length++;
+    }
+    key("it is good again", 6, count());
+}
+
+/* an empty record that is turned has the bytes of one that was opened so */
+static void empty_turned(size_t reading)
+{
+    for (uint64_t capacity = 1; capacity <= 1024; capacity++) {
+        record(openings[reading], "", capacity, 0);
+        memcpy(before, store, sizeof store);
+        record(openings[1 - reading], "", capacity, 0);
+        key("turn", 0, turns[reading](store, length));
+        key("the bytes of an opening", 0, memcmp(before, store, sizeof store) != 0);
+    }
+}
+
 /* the keys that ask for no repeat */
 static void either_reading(opening *open)
 {
@@ -244,14 +327,19 @@ static void either_reading(opening *open)
 int main(void)
 {
     static const uint64_t capacities[] = {6, 7, 64, 1023, 1024};
-    for (size_t i = 0; i < sizeof openings / sizeof openings[0]; i++) either_reading(openings[i]);
+    for (size_t i = 0; i < sizeof openings / sizeof openings[0]; i++) {
+        either_reading(openings[i]);
+        empty_turned(i);
+    }
     for (size_t k = 0; k < sizeof capacities / sizeof capacities[0]; k++)
         for (int from_left = 0; from_left < 2; from_left++) {
             short_records(capacities[k], from_left);
             longer_records(capacities[k], from_left);
-            three_repeats(capacities[k], from_left);
+            restriction_site(capacities[k], from_left);
             no_repeats(capacities[k], from_left);
             if (capacities[k] >= 10) nested_repeats(capacities[k], from_left);
+            there_and_back(capacities[k], from_left);
+            damaged(capacities[k], from_left);
         }
     printf("%lu keys\n", compared);
     return 0;

@@ -7,9 +7,13 @@
 /* the calls that open a store, in the order of the readings that they give it */
 #define EACH_OPENING(X) X(OPEN, open) X(OPEN_INVERTED, open_inverted)
 
+/* the calls that turn a record to a reading, in that order too */
+#define EACH_TURN(X) X(TURN_PLAIN, turn_plain) X(TURN_INVERTED, turn_inverted)
+
 /* the calls that test the store that they take */
 #define EACH_STORE_CALL(X)                                                                                        \
     X(ADD_LEFT, add_left) X(ADD_RIGHT, add_right) X(REMOVE_LEFT, remove_left) X(REMOVE_RIGHT, remove_right)       \
+    EACH_TURN(X)                                                                                                  \
     X(LENGTH, length) X(COUNT, count) X(LONGEST, longest) X(LONGEST_LEFT, longest_left)                           \
     X(LONGEST_RIGHT, longest_right) X(LETTER, letter) X(ROW, row) X(SPELL, spell) X(FIND, find) X(LIST, list)
 

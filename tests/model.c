@@ -7,10 +7,12 @@
 #include <stdlib.h>
 #include <string.h>
 
-enum { SHORT = 48, MIDDLING = 200, PIECE_SLOT = 0, OUT_SLOT, SCRATCH_SLOT, STORE_SLOT };
+enum { SHORT = 48, MIDDLING = 200, PIECE_SLOT = 0, OUT_SLOT, SCRATCH_SLOT, STORE_SLOT, REMADE_SLOT };
 
-unsigned long model_calls, model_facts;
+unsigned long model_sittings, model_calls, model_turns, model_facts;
 
+static const library linked = LIBRARY_OF_THIS_PROGRAM;
+static unsigned reading;
 static const unsigned char *rule;
 static unsigned char letters[MODEL_MOST];
 static size_t length, capacity, count;
@@ -24,10 +26,15 @@ size_t model_length(void)
     return length;
 }
 
+unsigned model_reading(void)
+{
+    return reading;
+}
+
 static void fail(const char *what, unsigned long long wanted, unsigned long long got)
 {
     printf("call %lu, %.*s (%s, capacity %zu): %s: wanted %llx, got %llx\n", model_calls, (int)(length < 100 ? length : 100), (char *)letters,
-           rule == brute_rule(PLAIN) ? "plain" : "inverted", capacity, what, wanted, got);
+           reading == PLAIN ? "plain" : "inverted", capacity, what, wanted, got);
     exit(1);
 }
 
@@ -82,7 +89,6 @@ static void ask_repeat(size_t i)
 
     same("find", packed(1, row, 0, 0), find(w, n));
     same("row", packed(0, link_row, n, inner_row), mirror_row(store, store_length, row));
-    if (row < 2 || row > capacity + 1) fail("a row outside 2 to capacity + 1", 0, row);
     same("spell", packed(0, 0, n, 0), mirror_spell(store, store_length, row, out, n));
     if (memcmp(out, w, n) != 0) fail("spelt bytes", 0, 0);
     memset(out, 7, n);
@@ -214,12 +220,7 @@ static uint64_t change(call_kind kind, uint64_t letter)
     memcpy(before, store, store_length);
     model_calls++;
     if (length <= SHORT || model_calls % (length < MIDDLING ? 16 : 256) == 0) return oracle(store, store_length, &c);
-    switch (kind) {
-    case ADD_LEFT: return mirror_add_left(store, store_length, letter);
-    case ADD_RIGHT: return mirror_add_right(store, store_length, letter);
-    case REMOVE_LEFT: return mirror_remove_left(store, store_length);
-    default: return mirror_remove_right(store, store_length);
-    }
+    return call_make(&linked, store, store_length, &c, &(buffers){0});
 }
 
 static void join(int left, uint64_t letter)
@@ -237,6 +238,7 @@ static void part(int left)
 
 static void bring_in(const unsigned char *w, size_t n, unsigned row)
 {
+    if (row < 2 || row > capacity + 1) fail("a row outside 2 to capacity + 1", 0, row);
     for (size_t i = 0; i < count; i++)
         if (repeats[i].row == row) fail("a new repeat got a row that is taken", i, row);
     memcpy(repeats[count].word, w, n);
@@ -286,8 +288,42 @@ void model_remove(int left)
     if (gone) repeats[i] = repeats[--count];
 }
 
-void model_open(unsigned reading, size_t wanted, size_t extra)
+/* the store as it was before a turn, opened in the reading in force, with the letters added at the right: the same bytes */
+static void remade(void)
 {
+    uint8_t *other = guarded(REMADE_SLOT, before, store_length);
+    same("opening anew", 0, (reading == PLAIN ? mirror_open : mirror_open_inverted)(other, store_length, capacity));
+    for (size_t i = 0; i < length; i++) same("a letter again", 0, mirror_refusal(mirror_add_right(other, store_length, letters[i])));
+    model_facts++;
+    if (memcmp(store, other, store_length) != 0) fail("a turn left other bytes than opening and adding", 0, 1);
+}
+
+void model_turn(unsigned to)
+{
+    static stretch list[MODEL_MOST];
+    same("turn", 0, change(TURN_PLAIN + to, 0));
+    if (to == reading) {
+        unchanged("a turn to the reading in force changed the store");
+        return;
+    }
+    model_turns++;
+    reading = to;
+    rule = brute_rule(reading);
+    count = 0;
+    size_t n = brute_list(rule, letters, length, list);
+    for (size_t i = 0; i < n; i++) {
+        const unsigned char *w = letters + list[i].start;
+        uint64_t found = find(w, list[i].end - list[i].start);
+        same("find after a turn", packed(1, mirror_row_of(found), 0, 0), found);
+        bring_in(w, list[i].end - list[i].start, mirror_row_of(found));
+    }
+    remade();
+}
+
+void model_open(unsigned wanted_reading, size_t wanted, size_t extra)
+{
+    model_sittings++;
+    reading = wanted_reading;
     rule = brute_rule(reading);
     capacity = wanted;
     length = count = 0;

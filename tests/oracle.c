@@ -116,6 +116,7 @@ static uint64_t wanted_answer(const call *c)
 {
     if (verdict) return 3;
     switch (c->kind) {
+    case TURN_PLAIN: case TURN_INVERTED: return 0;
     case LENGTH: return packed(0, 0, was.size, 0);
     case COUNT: return packed(0, 0, was.count, 0);
     case LONGEST: {
@@ -147,7 +148,13 @@ static void check_buffers(const call *c, size_t length, uint64_t answer)
         if (lent.scratch[i] != (i < cleared ? 0 : 0xa5)) fail(c, "scratch byte", i < cleared ? 0 : 0xa5, lent.scratch[i], length);
 }
 
-/* the order after a change: an addition leaves it, a row that goes changes places with the last row in use */
+static void check_beyond(const uint8_t *store, size_t length, const call *c, size_t capacity)
+{
+    size_t used = layout_used(capacity);
+    if (memcmp(before + used, store + used, length - used) != 0) fail(c, "bytes beyond those used", 0, 1, length);
+}
+
+/* the order after an addition or a removal: an addition leaves it, a row that goes changes places with the last row in use */
 static void check_order(const uint8_t *store, size_t length, const call *c, unsigned gone)
 {
     size_t last = was.count - 1, place = gone ? layout_cell(before, gone, CELL_RANK) : 0;
@@ -159,11 +166,10 @@ static void check_order(const uint8_t *store, size_t length, const call *c, unsi
     for (size_t r = 1; r < was.capacity + 2; r++)
         for (size_t f = CELL_UNUSED; f < ROW_CELLS; f++)
             if (layout_cell(before, r, f) != layout_cell(store, r, f)) fail(c, "a cell that is not used", r, f, length);
-    size_t used = layout_used(was.capacity);
-    if (memcmp(before + used, store + used, length - used) != 0) fail(c, "bytes beyond those used", 0, 1, length);
+    check_beyond(store, length, c, was.capacity);
 }
 
-/* the letters after a change, and that every palindrome that stays keeps its row */
+/* the letters after an addition or a removal, and that every palindrome that stays keeps its row */
 static void check_change(const uint8_t *store, size_t length, const call *c, uint64_t answer)
 {
     int left = c->kind == ADD_LEFT || c->kind == REMOVE_LEFT, adds = c->kind == ADD_LEFT || c->kind == ADD_RIGHT;
@@ -194,18 +200,36 @@ static void lend(const call *c)
     memset(lent.scratch, 0xa5, c->scratch_length);
 }
 
-/* an opened store: good, empty, the cells that are not used cleared, the bytes beyond as they were */
-static void check_opened(const uint8_t *store, size_t length, const call *c)
+/* a store that was made anew: good, of this capacity, with so many letters and read so, its rows listed from 2 on, the cells
+ * that are not used cleared, the bytes beyond as they were */
+static void check_anew(const uint8_t *store, size_t length, const call *c, size_t capacity, size_t size, unsigned reading)
 {
     const char *wrong = judge(store, length, &is);
-    size_t capacity = (size_t)c->number, used = layout_used(capacity);
     if (wrong) fail(c, wrong, 0, 1, length);
-    if (is.capacity != capacity || is.size != 0) fail(c, "capacity and letters", capacity, is.capacity, length);
-    if (OPEN + is.reading != c->kind) fail(c, "the reading", c->kind - OPEN, is.reading, length);
-    for (size_t r = 1; r < capacity + 2; r++)
+    if (is.capacity != capacity) fail(c, "the capacity", capacity, is.capacity, length);
+    if (is.size != size) fail(c, "how many letters", size, is.size, length);
+    if (is.reading != reading) fail(c, "the reading", reading, is.reading, length);
+    for (unsigned r = 1; r < capacity + 2; r++) {
+        unsigned listed = r < 2 ? r : layout_cell(store, r, CELL_ORDER);
+        if (listed != r) fail(c, "the order of rows", r, listed, length);
         for (size_t f = CELL_UNUSED; f < ROW_CELLS; f++)
             if (layout_cell(store, r, f) != 0) fail(c, "a cell that is not used", r, f, length);
-    if (memcmp(before + used, store + used, length - used) != 0) fail(c, "bytes beyond those used", 0, 1, length);
+    }
+    check_beyond(store, length, c, capacity);
+}
+
+/* A record turned to the other reading: its letters, and the rows of a record that was opened in that reading and got them at
+ * the right. So the repeats have the rows from 2 on, in the order in which they first end. */
+static void check_turned(const uint8_t *store, size_t length, const call *c)
+{
+    static stretch list[LAYOUT_MOST];
+    check_anew(store, length, c, was.capacity, was.size, c->kind - TURN_PLAIN);
+    if (memcmp(is.letters, was.letters, was.size) != 0) fail(c, "the letters", 0, 1, length);
+    size_t n = brute_list(is.rule, was.letters, was.size, list);
+    for (unsigned i = 0; i < n; i++) {
+        unsigned row = judge_row(&is, was.letters + list[i].start, list[i].end - list[i].start);
+        if (row != i + 2) fail(c, "a repeat's row", i + 2, row, length);
+    }
 }
 
 uint64_t oracle_open(uint8_t *store, size_t length, unsigned reading, uint64_t capacity)
@@ -218,7 +242,7 @@ uint64_t oracle_open(uint8_t *store, size_t length, unsigned reading, uint64_t c
     verdict = NULL;
     if (wanted != got) fail(&c, "answer", wanted, got, length);
     if (got != 0 && memcmp(store, before, length) != 0) fail(&c, "the store changed", 0, 1, length);
-    if (got == 0) check_opened(store, length, &c);
+    if (got == 0) check_anew(store, length, &c, capacity, 0, reading);
     return got;
 }
 
@@ -228,12 +252,15 @@ uint64_t oracle(uint8_t *store, size_t length, const call *c)
     memcpy(before, store, length);
     lend(c);
     uint64_t wanted = wanted_answer(c), got = call_make(&linked, store, length, c, &lent);
-    int changes = c->kind <= REMOVE_RIGHT && (wanted & 0xff) == 0;
+    int turns = c->kind == TURN_PLAIN || c->kind == TURN_INVERTED;
+    /* what is accepted and no question; but a turn to the reading in force must leave every byte */
+    int changes = c->kind < LENGTH && (wanted & 0xff) == 0 && c->kind != TURN_PLAIN + was.reading;
     oracle_calls++;
     if (changes && c->kind <= ADD_RIGHT && wanted != 0) wanted |= (uint64_t)layout_cell(before, was.count + 2, CELL_ORDER) << 16;
     if (wanted != got) fail(c, "answer", wanted, got, length);
     if (!changes && memcmp(store, before, length) != 0) fail(c, "the store changed", 0, 1, length);
-    if (changes) check_change(store, length, c, got);
+    if (changes && turns) check_turned(store, length, c);
+    if (changes && !turns) check_change(store, length, c, got);
     check_buffers(c, length, got);
     return got;
 }

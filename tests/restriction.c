@@ -1,8 +1,9 @@
 /* Restriction sites, as the catalogues of enzymes have them: what the inverted reading is for. A site that reads alike on both
  * strands is a repeat of every inverted record that holds it, and is found there; any other is absent, though it stands. The
  * records are a site between random letters, put together at the right or at both ends and taken apart again, and each site
- * alone. Whether letters read alike is tried here in a few lines, and no other test's program is asked. A wrong answer is told
- * on standard error, and the program ends with 1. */
+ * alone. Some are opened inverted; others plain, where no site of the first kind is found, and are turned to the inverted
+ * reading then. Whether letters read alike is tried here in a few lines, and no other test's program is asked. A wrong answer
+ * is told on standard error, and the program ends with 1. */
 #include "mirror.h"
 #include "random.h"
 #include <stdio.h>
@@ -77,6 +78,13 @@ static int reads_alike(const char *w, size_t n)
     return n > 0;
 }
 
+static void holds_the_letters(void)
+{
+    size_t n = strlen(letters);
+    key("length", (uint64_t)n << 32, mirror_length(store, length));
+    for (size_t i = 0; i < n; i++) key("letter", (uint64_t)letters[i] << 32, mirror_letter(store, length, i));
+}
+
 /* opens a record by the given call and puts in the letters: those from `from` on at the right, those before it at the left,
  * in an order by chance */
 static void record(uint64_t (*open)(uint8_t *, size_t, uint64_t), size_t from)
@@ -91,8 +99,7 @@ static void record(uint64_t (*open)(uint8_t *, size_t, uint64_t), size_t from)
                                   : mirror_add_right(store, length, (unsigned char)letters[right++]);
         key("addition", 0, mirror_refusal(answer));
     }
-    key("length", (uint64_t)n << 32, mirror_length(store, length));
-    for (size_t i = 0; i < n; i++) key("letter", (uint64_t)letters[i] << 32, mirror_letter(store, length, i));
+    holds_the_letters();
 }
 
 static uint64_t find(const char *site, size_t n)
@@ -114,11 +121,21 @@ static void is_found(const char *piece, size_t n)
 /* each site of the table is found where it stands and reads alike, and is absent otherwise */
 static void every_site(const entry *sites, size_t count, int found)
 {
+    const entry *of_the_record = at_hand;
     for (size_t i = 0; i < count; i++) {
         at_hand = &sites[i];
         if (found && strstr(letters, sites[i].site)) is_found(sites[i].site, strlen(sites[i].site));
         else key("absent", 0, find(sites[i].site, strlen(sites[i].site)));
     }
+    at_hand = of_the_record;
+}
+
+/* a plain record knows no site of the first table, for no letter is its own partner, until it is turned */
+static void turn_inverted(void)
+{
+    every_site(even, EVEN, 0);
+    key("turn", 0, mirror_turn_inverted(store, length));
+    holds_the_letters();
 }
 
 /* takes so many letters away at the two ends, in an order by chance */
@@ -138,23 +155,22 @@ static void take_apart(size_t before, size_t after)
     memmove(letters, letters + first, n - first + 1);
 }
 
-/* one site between letters drawn by chance, put together at the right or around its middle; then those letters go, and at
- * last its own */
-static void between_flanks(const entry *e, int at_both_ends)
+/* one site between letters drawn by chance, put together at the right or around its middle, in an inverted record or in a plain
+ * one that is turned; then those letters go, and at last its own */
+static void between_flanks(const entry *e, int at_both_ends, int turned)
 {
     size_t m = strlen(e->site), before = random_below(FLANK), after = random_below(FLANK), n = before + m + after;
     for (size_t i = 0; i < n; i++) letters[i] = "ACGT"[random_below(4)];
     memcpy(letters + before, e->site, m);
     letters[n] = 0;
     at_hand = e;
-    record(mirror_open_inverted, at_both_ends ? before + m / 2 : 0);
+    record(turned ? mirror_open : mirror_open_inverted, at_both_ends ? before + m / 2 : 0);
+    if (turned) turn_inverted();
     every_site(even, EVEN, 1);
     every_site(uneven, UNEVEN, 0);
-    at_hand = e;
     take_apart(before, after);
     every_site(even, EVEN, 1);
     every_site(uneven, UNEVEN, 0);
-    at_hand = e;
     take_apart(m / 2, m - m / 2);
     key("repeats of no letters", 0, mirror_count(store, length));
 }
@@ -199,13 +215,17 @@ static void alone(const entry *e, int found)
     is_found(e->site, n);
 }
 
-/* a plain record knows no site of the first table: no letter is its own partner */
+/* the site alone in a plain record: absent until that is turned, and absent again once it is turned back */
 static void in_a_plain_record(const entry *e)
 {
     strcpy(letters, e->site);
     at_hand = e;
     record(mirror_open, 0);
-    key("absent in a plain record", 0, find(e->site, strlen(e->site)));
+    turn_inverted();
+    is_found(e->site, strlen(e->site));
+    key("turn back", 0, mirror_turn_plain(store, length));
+    holds_the_letters();
+    every_site(even, EVEN, 0);
 }
 
 /* every test on the sites of one table */
@@ -214,7 +234,7 @@ static void table(const entry *sites, size_t count, int alike)
     for (size_t i = 0; i < count; i++) {
         at_hand = &sites[i];
         key("the table", (uint64_t)alike, (uint64_t)reads_alike(sites[i].site, strlen(sites[i].site)));
-        for (int draw = 0; draw < 2 * DRAWS; draw++) between_flanks(&sites[i], draw % 2);
+        for (int draw = 0; draw < 2 * DRAWS; draw++) between_flanks(&sites[i], draw % 2, draw / 2 % 3 == 2);
         alone(&sites[i], alike);
         if (alike) in_a_plain_record(&sites[i]);
     }

@@ -1,8 +1,9 @@
-/* Holds keys (docs/SITTINGS.md, examples/NAME.key) against a program that tries every stretch: the letters after each
- * call follow from the calls that the key says were accepted, what is asked of the letters alone has the answer that
- * every stretch gives, and a table of rows names every repeat that stands and no other, with the fields that its letters
- * give. A dozen sittings, each with a title of its own (##), are the least. It makes no call: that the library answers what
- * the keys say is what tests/key looks at. Usage: samples KEY.. */
+/* Holds keys (docs/SITTINGS.md, examples/NAME.key) against a program that tries every stretch. The letters and the reading
+ * after each call follow from the calls that the key says were accepted, and so do the rows: a new repeat takes the row that
+ * was freed last or, where none is left of those, the lowest that was never taken; an opening and a turn to the other reading
+ * begin anew, and after a turn the repeats take their rows in the order in which they first end. So every accepted call has one
+ * right answer, and every table of rows one right content. A dozen sittings, each with a title of its own (##), are the least.
+ * It makes no call: that the library answers what the keys say is what tests/key looks at. Usage: samples KEY.. */
 #include "brute.h"
 #include <ctype.h>
 #include <stdio.h>
@@ -11,13 +12,21 @@
 
 enum { MOST = 64, CELLS = 8, LINE = 4096 };
 
-static const unsigned char *rule; /* of the record that was opened last */
+typedef struct { unsigned row; size_t length; unsigned char word[MOST]; } repeat;
+
 static const char *file = "samples";
-static char letters[MOST + 1];
 static int line_number, sittings, calls, judged, tables;
-static struct { unsigned row, length, link, inner; char word[MOST + 1]; } rows[MOST];
-static size_t row_count;
 static enum { NONE, CALLS, ROWS } table;
+static unsigned last_row, row_lines; /* of the table of rows that is being read */
+
+static unsigned reading;
+static const unsigned char *rule; /* of that reading */
+static unsigned char letters[MOST + 1];
+static size_t size;
+static repeat held[MOST]; /* what stands, in any order */
+static size_t count;
+static unsigned free_rows[MOST]; /* the last is taken next */
+static size_t free_count;
 
 static void fail(const char *what, const char *key, const char *found)
 {
@@ -30,106 +39,217 @@ static void compare(const char *what, const char *key, const char *found)
     if (strcmp(key, found) != 0) fail(what, key, found);
 }
 
-/* ---- tables of calls */
+/* ---- the record and its rows */
 
-/* the letters after a call that the key calls accepted */
-static void follow(const char *call, const char *answer)
+/* an opened record; its letters, if any, are put in later */
+static void begin(unsigned read_so)
 {
-    size_t n = strlen(letters);
-    int left = strstr(call, "left") != NULL;
-    if (strncmp(answer, "refused", 7) == 0) return;
-    if (strncmp(call, "open", 4) == 0) {
-        rule = brute_rule(strncmp(call, "open-inverted ", 14) == 0 ? INVERTED : PLAIN);
-        letters[0] = 0;
-    } else if (strncmp(call, "add ", 4) == 0) {
-        if (n == MOST) fail("letters", "too many", "");
-        memmove(letters + left, letters, n + 1);
-        letters[left ? 0 : n] = call[4];
-        letters[n + 1] = 0;
-    } else if (strncmp(call, "remove ", 7) == 0 && n > 0) {
-        if (left) memmove(letters, letters + 1, n);
-        else letters[n - 1] = 0;
+    reading = read_so;
+    rule = brute_rule(reading);
+    count = 0;
+    for (free_count = 0; free_count < MOST; free_count++) free_rows[free_count] = (unsigned)(MOST + 1 - free_count);
+}
+
+static repeat *find(const unsigned char *word, size_t m)
+{
+    for (size_t i = 0; i < count; i++)
+        if (held[i].length == m && memcmp(held[i].word, word, m) == 0) return &held[i];
+    return NULL;
+}
+
+static repeat *find_row(unsigned row)
+{
+    for (size_t i = 0; i < count; i++)
+        if (held[i].row == row) return &held[i];
+    fail("a row", "in use", "free");
+    return NULL;
+}
+
+/* the row of a repeat that stands, 1 for the empty string */
+static unsigned row_of(const unsigned char *word, size_t m)
+{
+    const repeat *r = find(word, m);
+    if (m > 0 && !r) fail("a repeat without a row", (const char *)letters, (const char *)word);
+    return m > 0 ? r->row : 1;
+}
+
+static const repeat *take_row(const unsigned char *word, size_t m)
+{
+    repeat *r = &held[count++];
+    r->row = free_rows[--free_count];
+    r->length = m;
+    memcpy(r->word, word, m);
+    return r;
+}
+
+static void free_row(repeat *r)
+{
+    free_rows[free_count++] = r->row;
+    *r = held[--count];
+}
+
+static void turn(unsigned to)
+{
+    stretch all[MOST];
+    if (to == reading) return;
+    begin(to);
+    size_t repeats = brute_list(rule, letters, size, all);
+    for (size_t i = 0; i < repeats; i++) take_row(letters + all[i].start, all[i].end - all[i].start);
+}
+
+/* the longest repeat at an end; its length */
+static size_t at_end(int left, const unsigned char **word)
+{
+    size_t m = left ? brute_left(rule, letters, size) : brute_right(rule, letters, size);
+    *word = left ? letters : letters + size - m;
+    return m;
+}
+
+static void add(int left, char letter, char *said)
+{
+    const unsigned char *word;
+    if (size == MOST) fail("letters", "too many", "");
+    memmove(letters + left, letters, size);
+    letters[left ? 0 : size] = (unsigned char)letter;
+    size++;
+    size_t m = at_end(left, &word);
+    if (m == 0 || find(word, m)) strcpy(said, "none new");
+    else sprintf(said, "%.*s is new, row %u", (int)m, (const char *)word, take_row(word, m)->row);
+}
+
+static void take_away(int left, char *said)
+{
+    const unsigned char *word;
+    if (size == 0) fail("a removal", "accepted", "no letter");
+    said += sprintf(said, "%c; ", letters[left ? 0 : size - 1]);
+    size_t m = at_end(left, &word);
+    repeat *longest = m ? find(word, m) : NULL;
+    size--;
+    if (left) memmove(letters, letters + 1, size);
+    if (!longest || brute_first(longest->word, m, letters, size) <= size) strcpy(said, "none goes");
+    else {
+        sprintf(said, "%.*s goes, row %u", (int)m, (const char *)longest->word, longest->row);
+        free_row(longest);
     }
 }
 
-/* what every stretch answers to a question about the letters alone, or about an end that has no repeat; 0 where the call is
- * another */
-static int answer_of(const char *call, char *said)
+/* ---- questions */
+
+static void say_end(int left, char *said)
 {
-    const unsigned char *s = (const unsigned char *)letters;
-    size_t n = strlen(letters);
-    stretch all[MOST], longest = brute_longest(rule, s, n);
-    size_t count = brute_list(rule, s, n, all);
-    *said = 0;
-    if (strcmp(call, "length") == 0) sprintf(said, "%zu", n);
-    else if (strcmp(call, "count") == 0) sprintf(said, "%zu", count);
+    const unsigned char *word;
+    size_t m = at_end(left, &word), first;
+    int once = m > 0 && brute_places(word, m, letters, size, &first) == 1;
+    sprintf(said, "row %u, %s", row_of(word, m), once ? "once only" : "not once only");
+}
+
+/* a row's link and inner row; rows 0 and 1 have neither */
+static void fields(const repeat *r, unsigned *link, unsigned *inner)
+{
+    size_t m = r->length, shorter = brute_link(rule, r->word, m);
+    *link = row_of(r->word + m - shorter, shorter);
+    *inner = m == 1 ? 0 : row_of(r->word + 1, m - 2);
+}
+
+static void say_row(unsigned row, char *said)
+{
+    unsigned link = 0, inner = 0;
+    if (row >= 2) fields(find_row(row), &link, &inner);
+    sprintf(said, "length %d, link %u, inner %u", row >= 2 ? (int)find_row(row)->length : (int)row - 1, link, inner);
+}
+
+static void say_spelling(unsigned row, char *said)
+{
+    if (row < 2) strcpy(said, "nothing");
+    else sprintf(said, "%.*s", (int)find_row(row)->length, (const char *)find_row(row)->word);
+}
+
+static void say_found(const char *piece, char *said)
+{
+    const repeat *r = find((const unsigned char *)piece, strlen(piece));
+    if (r) sprintf(said, "row %u", r->row);
+    else strcpy(said, "absent");
+}
+
+static void say_list(const stretch *all, size_t repeats, char *said)
+{
+    if (repeats == 0) strcpy(said, "nothing");
+    for (size_t i = 0; i < repeats; i++) said += sprintf(said, "%s%zu-%zu", i ? " " : "", all[i].start, all[i].end);
+}
+
+/* what every stretch answers to a question */
+static void ask(const char *call, char *said)
+{
+    stretch all[MOST], longest = brute_longest(rule, letters, size);
+    size_t repeats = brute_list(rule, letters, size, all);
+    const char *blank = strchr(call, ' '), *about = blank ? blank + 1 : "";
+    unsigned number = (unsigned)strtoul(about, NULL, 10);
+    if (strcmp(call, "length") == 0) sprintf(said, "%zu", size);
+    else if (strcmp(call, "count") == 0) sprintf(said, "%zu", repeats);
     else if (strcmp(call, "longest") == 0) sprintf(said, "length %zu at %zu", longest.end - longest.start, longest.start);
-    else if (strcmp(call, "longest left") == 0 && brute_left(rule, s, n) == 0) strcpy(said, "row 1, not once only");
-    else if (strcmp(call, "longest right") == 0 && brute_right(rule, s, n) == 0) strcpy(said, "row 1, not once only");
-    else if (strncmp(call, "letter ", 7) == 0) sprintf(said, "%.1s", letters + strtoul(call + 7, NULL, 10));
-    else if (strncmp(call, "list ", 5) == 0 && count == 0) strcpy(said, "nothing");
-    else if (strncmp(call, "list ", 5) == 0)
-        for (size_t i = 0; i < count; i++) said += sprintf(said, "%s%zu-%zu", i ? " " : "", all[i].start, all[i].end);
-    else return 0;
-    return 1;
+    else if (strncmp(call, "longest ", 8) == 0) say_end(strcmp(about, "left") == 0, said);
+    else if (strncmp(call, "letter ", 7) == 0) sprintf(said, "%.1s", number < size ? (const char *)letters + number : "");
+    else if (strncmp(call, "row ", 4) == 0) say_row(number, said);
+    else if (strncmp(call, "spell ", 6) == 0) say_spelling(number, said);
+    else if (strncmp(call, "find ", 5) == 0) say_found(about, said);
+    else if (strncmp(call, "list ", 5) == 0) say_list(all, repeats, said);
+    else fail("a call", call, "none");
+}
+
+/* ---- tables of calls */
+
+/* makes a call that the key calls accepted, on the letters and rows here, and writes what it must answer */
+static void make(const char *call, char *said)
+{
+    int left = strstr(call, " left") != NULL, inverted = strstr(call, "inverted") != NULL;
+    strcpy(said, "done");
+    if (strncmp(call, "open", 4) == 0) size = 0, begin(inverted ? INVERTED : PLAIN);
+    else if (strncmp(call, "turn ", 5) == 0) turn(inverted ? INVERTED : PLAIN);
+    else if (strncmp(call, "add ", 4) == 0) add(left, call[4], said);
+    else if (strncmp(call, "remove ", 7) == 0) take_away(left, said);
+    else ask(call, said);
+    letters[size] = 0;
 }
 
 static void call_line(char **cells)
 {
     char said[LINE];
-    follow(cells[0], cells[1]);
-    compare("letters", cells[2], letters);
     calls++;
-    if (strncmp(cells[1], "refused", 7) == 0 || !answer_of(cells[0], said)) return;
-    compare(cells[0], cells[1], said);
-    judged++;
+    if (strncmp(cells[1], "refused", 7) != 0) {
+        make(cells[0], said);
+        compare(cells[0], cells[1], said);
+        judged++;
+    }
+    compare("letters", cells[2], (const char *)letters);
 }
 
 /* ---- tables of rows */
 
+/* one row of the table: in use, above those before it, with what its letters give */
 static void row_line(char **cells)
 {
-    if (row_count == MOST) fail("rows", "too many", "");
-    rows[row_count].row = (unsigned)atoi(cells[0]);
-    rows[row_count].length = (unsigned)atoi(cells[2]);
-    rows[row_count].link = (unsigned)atoi(cells[3]);
-    rows[row_count].inner = (unsigned)atoi(cells[4]);
-    snprintf(rows[row_count].word, MOST + 1, "%s", cells[1]);
-    row_count++;
+    char wanted[5][LINE];
+    unsigned link, inner, row = (unsigned)atoi(cells[0]);
+    const repeat *r = find_row(row);
+    fields(r, &link, &inner);
+    sprintf(wanted[0], "%u", row);
+    sprintf(wanted[1], "%.*s", (int)r->length, (const char *)r->word);
+    sprintf(wanted[2], "%zu", r->length);
+    sprintf(wanted[3], "%u", link);
+    sprintf(wanted[4], "%u", inner);
+    for (int i = 0; i < 5; i++) compare("a row", cells[i], wanted[i]);
+    if (row <= last_row) fail("rows", cells[0], "a higher one before it");
+    last_row = row;
+    row_lines++;
 }
 
-/* where the word stands in the table of rows; as many as there are rows where it does not */
-static size_t place_of(const char *word, size_t n)
-{
-    size_t i = 0;
-    while (i < row_count && (strlen(rows[i].word) != n || strncmp(rows[i].word, word, n) != 0)) i++;
-    return i;
-}
-
-static unsigned row_of(const char *word, size_t n)
-{
-    size_t i = place_of(word, n);
-    if (i == row_count) fail("a repeat without a row", letters, word);
-    return rows[i].row;
-}
-
-/* the finished table of rows names every palindrome of the letters once, with the fields that its letters give */
-static void check_table(void)
+/* the finished table of rows names every repeat that stands, as many as every stretch gives */
+static void end_table(void)
 {
     stretch all[MOST];
-    size_t n = brute_list(rule, (unsigned char *)letters, strlen(letters), all);
-    if (n != row_count) fail("how many rows", "another number", letters);
-    for (size_t i = 0; i < n; i++) {
-        const char *w = letters + all[i].start;
-        size_t m = all[i].end - all[i].start, link = brute_link(rule, (const unsigned char *)w, m);
-        unsigned row = row_of(w, m), link_row = link ? row_of(w + m - link, link) : 1, inner = m == 1 ? 0 : m == 2 ? 1 : row_of(w + 1, m - 2);
-        size_t k = place_of(w, m);
-        if (row < 2 || rows[k].length != m || rows[k].link != link_row || rows[k].inner != inner) fail("a row's fields", rows[k].word, "others by every stretch");
-        for (size_t j = 0; j < k; j++)
-            if (rows[j].row == row) fail("a row", rows[j].word, rows[k].word);
-    }
+    if (row_lines != count || count != brute_list(rule, letters, size, all)) fail("how many rows", "another number", (const char *)letters);
     tables++;
-    row_count = 0;
+    last_row = row_lines = 0;
 }
 
 /* ---- reading */
@@ -137,33 +257,33 @@ static void check_table(void)
 /* cuts a line of a table into its cells, without the blanks around them */
 static int cut(char *line, char **cells)
 {
-    int n = 0;
+    int found = 0;
     char *at = line + 1, *bar;
-    for (; n < CELLS && (bar = strchr(at, '|')) != NULL; at = bar + 1) {
+    for (; found < CELLS && (bar = strchr(at, '|')) != NULL; at = bar + 1) {
         char *end = bar;
         while (isspace((unsigned char)*at)) at++;
         while (end > at && isspace((unsigned char)end[-1])) end--;
         *end = 0;
-        cells[n++] = at < bar ? at : end;
+        cells[found++] = at < bar ? at : end;
     }
-    return n;
+    return found;
 }
 
 static void one_line(char *line)
 {
     char *cells[CELLS];
     if (line[0] != '|') {
-        if (table == ROWS) check_table();
+        if (table == ROWS) end_table();
         table = NONE;
         sittings += strncmp(line, "## ", 3) == 0;
         return;
     }
-    int n = cut(line, cells);
+    int found = cut(line, cells);
     if (table == NONE) {
-        table = n == 3 && strcmp(cells[0], "call") == 0 ? CALLS : n == 5 && strcmp(cells[0], "row") == 0 ? ROWS : NONE;
+        table = found == 3 && strcmp(cells[0], "call") == 0 ? CALLS : found == 5 && strcmp(cells[0], "row") == 0 ? ROWS : NONE;
         if (table == NONE) fail("a table of another kind", cells[0], "");
     } else if (strncmp(cells[0], "---", 3) != 0) {
-        if (n != (table == CALLS ? 3 : 5)) fail("cells in a line", cells[0], "another number");
+        if (found != (table == CALLS ? 3 : 5)) fail("cells in a line", cells[0], "another number");
         (table == CALLS ? call_line : row_line)(cells);
     }
 }
@@ -174,8 +294,8 @@ static void one_key(const char *name)
     int calls_before = calls, tables_before = tables;
     FILE *key = fopen(file = name, "r");
     if (key == NULL) fail("the file", "there", "not there");
-    rule = brute_rule(PLAIN);
-    letters[0] = 0;
+    letters[size = 0] = 0;
+    begin(PLAIN);
     for (line_number = 1; fgets(line, sizeof line, key); line_number++) one_line(line);
     one_line((char[]){""});
     fclose(key);

@@ -1,7 +1,7 @@
 /* Long sittings through the C boundary: every call, every answer, every lent byte, at small and large capacities, first
  * with buffers that end at a guard page and then with buffers that begin right after one. Random sittings, then
  * structured records that grow at one end or at both, up to full length, and shrink again; all of it on plain records and on
- * inverted ones. Usage: sittings [seed [sittings]] */
+ * inverted ones, with and without turns to the other reading. Usage: sittings [seed [sittings]] */
 #include "brute.h"
 #include "guard.h"
 #include "model.h"
@@ -44,38 +44,66 @@ static unsigned letter_of(unsigned reading, int word, unsigned i)
 /* numbers that are no letters; some would be one if they were narrowed to a byte */
 static const uint64_t no_letters[] = {'N', 'U', 'a', 'c', 'g', 't', 0, 255, 'A' + 256, 'T' + 65536, 'C' + (1ull << 32), 'G' + (1ull << 63)};
 
-/* the letters are the first ones of ATCG, so that two of them are partners, and some join as a pair around the whole record */
-static void random_sitting(unsigned reading, size_t capacity, unsigned turns, unsigned alphabet, unsigned removing)
+/* an addition, now and then of no letter or undone at once, or a removal; the letters are the first ones of ATCG, so that two
+ * of them are partners, and some join as a pair around the whole record */
+static void random_change(unsigned alphabet, unsigned removing)
 {
-    model_open(reading, capacity, random_below(3) * 11);
+    unsigned what = random_below(100);
+    int left = (int)random_below(2);
+    unsigned char letter = (unsigned char)"ATCG"[random_below(alphabet)];
+    if (what < 4) model_add(left, no_letters[random_below(sizeof no_letters / sizeof no_letters[0])], 0);
+    else if (what < 10) model_add(left, letter, 1);
+    else if (what < 10 + removing) model_remove(left);
+    else model_add(left, letter, 0);
+    if (what > 90) model_add(!left, brute_rule(model_reading())[letter], 0);
+}
+
+/* about half of the sittings turn now and then, to either reading; the others keep the one that they were opened in */
+static void random_sitting(unsigned reading, size_t capacity, unsigned steps, unsigned alphabet, unsigned removing)
+{
+    unsigned turning = 12 * random_below(2);
+    model_open(reading, capacity, random_below(3) * 25); /* 50 bytes more would do for one letter more */
     model_ask();
-    for (unsigned i = 0; i < turns; i++) {
-        unsigned what = random_below(100);
-        int left = (int)random_below(2);
-        unsigned char letter = (unsigned char)"ATCG"[random_below(alphabet)];
-        if (what < 4) model_add(left, no_letters[random_below(sizeof no_letters / sizeof no_letters[0])], 0);
-        else if (what < 10) model_add(left, letter, 1);
-        else if (what < 10 + removing) model_remove(left);
-        else model_add(left, letter, 0);
-        if (what > 90) model_add(!left, brute_rule(reading)[letter], 0);
+    for (unsigned i = 0; i < steps; i++) {
+        if (random_below(100) < turning) model_turn(random_below(READINGS));
+        else random_change(alphabet, removing);
         if (model_length() <= 48 || i % 64 == 63) model_ask();
     }
     model_ask();
 }
 
-/* a word added until the record is full, at the right (0), at the left (1) or at both in turn (2), then taken away */
-static void structured_sitting(unsigned reading, int word, size_t capacity, unsigned ends)
+/* to the other reading; before and after that to the one in force, which must change nothing */
+static void turn_over(void)
+{
+    unsigned to = model_reading() == PLAIN ? INVERTED : PLAIN;
+    model_turn(model_reading());
+    model_turn(to);
+    model_turn(to);
+}
+
+/* a sitting that turns does so where the record is empty, has one letter, is half full and is full */
+static void turn_at_some_lengths(int turning, size_t capacity)
+{
+    size_t n = model_length();
+    if (turning && (n == 0 || n == 1 || n == capacity / 2 || n == capacity)) turn_over();
+}
+
+/* a word added until the record is full, at the right (0), at the left (1) or at both (2), then taken away */
+static void structured_sitting(unsigned reading, int word, size_t capacity, unsigned ends, int turning)
 {
     model_open(reading, capacity, 5);
+    turn_at_some_lengths(turning, capacity);
     for (unsigned i = 0; i < capacity + 2; i++) {
         int left = ends == 1 || (ends == 2 && i % 3 == 0);
         model_add(left, letter_of(reading, word, i), i % 16 == 0);
         if (i % 16 == 0) model_add(left, letter_of(reading, word, i), 0);
+        turn_at_some_lengths(turning, capacity);
         if (capacity < 40 || i == capacity / 2) model_ask();
     }
     model_ask();
     for (unsigned i = 0; model_length() > 0; i++) {
         model_remove(ends == 2 ? i % 2 == 0 : ends == 0);
+        turn_at_some_lengths(turning, capacity);
         if (capacity < 40 || i == capacity / 2) model_ask();
     }
     model_remove(0);
@@ -90,14 +118,18 @@ static void run(unsigned reading, int sittings)
         random_sitting(reading, capacity, 60 + random_below(capacity < 100 ? 300 : 60), 1 + random_below(4), 10 + random_below(50));
     }
     for (int word = 0; word < WORDS; word++)
-        for (size_t k = 0; k < sizeof capacities / sizeof capacities[0]; k++)
-            for (unsigned ends = 0; ends < 3; ends++) structured_sitting(reading, word, capacities[k], ends);
+        for (unsigned k = 0; k < sizeof capacities / sizeof capacities[0]; k++) {
+            for (unsigned ends = 0; ends < 3; ends++) structured_sitting(reading, word, capacities[k], ends, 0);
+            structured_sitting(reading, word, capacities[k], ((unsigned)word + k) % 3, 1);
+        }
 }
 
-/* full length: every other word, at the ends that its turn brings */
-static void run_full(unsigned reading, int turn)
+/* full length: every other word, and one word with turns, each at the ends that its place brings */
+static void run_full(unsigned reading, int place)
 {
-    for (int word = turn; word < WORDS; word += 2) structured_sitting(reading, word, MODEL_MOST, (unsigned)(word + turn) % 3);
+    for (int word = place; word < WORDS; word += 2) structured_sitting(reading, word, MODEL_MOST, (unsigned)(word + place) % 3, 0);
+    int turned = AT + 2 * place + (int)reading;
+    structured_sitting(reading, turned, MODEL_MOST, (unsigned)turned % 3, 1);
 }
 
 int main(int argc, char **argv)
@@ -111,6 +143,6 @@ int main(int argc, char **argv)
             run_full(reading, place);
         }
     }
-    printf("%d sittings, %lu changes, %lu facts\n", READINGS * (2 * sittings + WORDS * (2 * 21 + 1)), model_calls, model_facts);
+    printf("%lu sittings, %lu changes, %lu turns to the other reading, %lu facts\n", model_sittings, model_calls, model_turns, model_facts);
     return 0;
 }

@@ -1,13 +1,13 @@
 /* Two versions of the library side by side: each call goes to both with the same arguments and equal bytes lent, and the
- * answers and every lent byte afterwards must be equal. Long sittings at both ends with every question, damaged stores,
- * FASTA texts and lists; nothing is judged here but that both do the same. tests/versions builds the two.
+ * answers and every lent byte afterwards must be equal. Long sittings at both ends with turns and every question, damaged
+ * stores, FASTA texts and lists; nothing is judged here but that both do the same. tests/versions builds the two.
  *
  *     versions ONE.so OTHER.so SEED CALLS [LEFT OUT..]
  *
  * CALL leaves a call out, CALL.flag, .row, .first or .second that field of its answer; `store` leaves out the stores'
  * bytes, for versions that lay a store out differently: then no store is damaged either; `small` gives the second version
  * capitals where a later line of a FASTA text has small letters, which the first versions refused. Without open_inverted,
- * named or not in both, every record is plain. */
+ * named or not in both, every record is plain, and none is turned to the inverted reading. */
 #include "calls.h"
 #include "damages.h"
 #include "fasta_texts.h"
@@ -85,11 +85,15 @@ static uint64_t make(const call *c)
     return same_answer(which, answers);
 }
 
-/* the letters as the accepted calls make them; only arguments are chosen by them */
+/* the letters and the reading as the accepted calls make them; only arguments are chosen by them */
 static void follow(const call *c, uint64_t answer)
 {
     int left = c->kind == ADD_LEFT || c->kind == REMOVE_LEFT;
-    if ((answer & 0xff) != 0 || c->kind > REMOVE_RIGHT) return;
+    if ((answer & 0xff) != 0 || c->kind >= LENGTH) return;
+    if (c->kind >= TURN_PLAIN) {
+        rule = brute_rule(c->kind - TURN_PLAIN);
+        return;
+    }
     if (c->kind >= REMOVE_LEFT) {
         size--;
         if (left) memmove(letters, letters + 1, size);
@@ -201,7 +205,7 @@ static int without_inverted(void)
 static unsigned long budget;
 
 /* a store of any bytes, refused openings and an accepted one; then additions and removals at both ends, more of one, then of
- * the other, and between them every question */
+ * the other, and between them every question and, now and then, a turn to either reading */
 static void sitting(size_t wanted, unsigned alphabet)
 {
     unsigned reading = without_inverted() ? PLAIN : random_below(READINGS);
@@ -212,11 +216,12 @@ static void sitting(size_t wanted, unsigned alphabet)
     open_both(reading, wanted);
     length = whole;
     if (!open_both(reading, wanted)) return;
-    unsigned turns = 20 + random_below(6 * (unsigned)wanted + 40), phase = 1 + random_below(2 * (unsigned)wanted + 8);
-    for (unsigned i = 0; i < turns && total < budget; i++) {
+    unsigned steps = 20 + random_below(6 * (unsigned)wanted + 40), phase = 1 + random_below(2 * (unsigned)wanted + 8);
+    for (unsigned i = 0; i < steps && total < budget; i++) {
         int growing = i / phase % 2 == 0 ? random_below(8) != 0 : random_below(8) == 0;
         int asks = random_below(5) < 2;
         call_kind kind = asks ? LENGTH + random_below(CALL_KINDS - LENGTH) : (growing ? ADD_LEFT : REMOVE_LEFT) + random_below(2);
+        if (random_below(32) == 0) kind = TURN_PLAIN + random_below(READINGS);
         call c = some_call(kind, alphabet);
         uint64_t answer = make(&c);
         follow(&c, answer);
@@ -361,6 +366,7 @@ int main(int argc, char **argv)
     }
     load(argv + 1);
     for (int i = 5; i < argc; i++) leave_out(argv[i]);
+    if (without_inverted()) left_out[TURN_INVERTED] = UINT64_MAX;
     random_seed(argv[3], 0);
     fasta_seed(strtoull(argv[3], NULL, 10));
     budget = strtoul(argv[4], NULL, 10);
