@@ -1,9 +1,10 @@
-/* The benchmark: the library beside its C twin, in one run, on five words and four sizes in either reading, and inverted
- * records beside plain ones.
+/* The benchmark: the library beside its C twin, in one run, on five words and four sizes in either reading, inverted
+ * records beside plain ones, and turns beside length.
  *
  * Prints ratios, library over twin, since times of one machine say little; a ratio above the limit is marked with !.
  * The argument names the file that gets the drawing of growth. Ends with 1 if a tested call at 1,000 letters, a fill or
- * reading FASTA is above its limit, or an inverted record at 1,000 letters takes longer beside a plain one than it may. */
+ * reading FASTA is above its limit, or if at 1,000 letters an inverted record beside a plain one, or a turn beside length,
+ * takes longer than it may. */
 #include <math.h>
 
 #include "calls.h"
@@ -15,52 +16,104 @@ static const size_t sizes[] = {125, 250, 500, 1000};
 static const char *const reading_names[] = {"plain", "inverted"};
 enum { SIZES = 4, LARGEST = 1000, SAMPLES = 2000, ROUNDS = 10, TEST_ALONE = CALL_LENGTH };
 
-/* The times of every call on every word, at the size that was measured last. */
-static struct pair least[PAIRS][ALL_WORDS];
+/* The times of every call on every word in either reading, at the size that was measured last. */
+static struct pair least[PAIRS][2][ALL_WORDS];
 
-static void heading(const char *title, enum reading reading)
+/* The heading of a table on the words that are made for a reading. */
+static void heading(const char *title, enum reading made_for)
 {
     printf("\n%-26s", title);
     for (int w = 0; w < WORDS; w++)
-        printf("%13s", word_names[reading * WORDS + w]);
+        printf("%13s", word_names[made_for * WORDS + w]);
     puts("");
 }
 
 static const char *mark(double ratio, double limit) { return ratio > limit ? "!" : " "; }
+
+/* One line of work on five words: the time of the library, and its ratio to the twin's; how many ratios are above the limit.
+ * A library that left other bytes than the twin has a time below 0, and counts as above. */
+static int line(const char *name, double limit, const struct pair times[WORDS])
+{
+    int above = 0;
+    printf("  %-24s", name);
+    for (int w = 0; w < WORDS; w++) {
+        double ratio = times[w].library / times[w].twin;
+        above += ratio > limit || ratio < 0;
+        printf("%6.1f %5.2f%s", times[w].library, ratio, mark(ratio, limit));
+    }
+    puts("");
+    return above;
+}
+
+/* One line that holds the times of some work on five words against those of other work: the ratio in the library, and in the
+ * twin; how many of the library's are above the limit. */
+static int against(const char *name, double limit, const struct pair times[WORDS], const struct pair others[WORDS])
+{
+    int above = 0;
+    printf("  %-24s", name);
+    for (int w = 0; w < WORDS; w++) {
+        double ratio = times[w].library / others[w].library;
+        above += ratio > limit;
+        printf("%6.2f%s%5.2f ", ratio, mark(ratio, limit), times[w].twin / others[w].twin);
+    }
+    puts("");
+    return above;
+}
+
+/* Whether a call is timed on a word in a reading. The words that are made for the other reading are for turns, and for
+ * length beside them: some have few rows or none, which cost least to test, while a turn brings in as many as letters. */
+static bool timed(int call, int word, enum reading reading)
+{
+    if (word_reading(word) != (int)reading)
+        return word < BOTH_WORDS && (is_turn(call) || call == CALL_LENGTH);
+    return !opens_otherwise(call, reading);
+}
 
 /* Times every call on every word in rounds, so that no pair has the machine's bad moment alone. */
 static void measure_calls(size_t n)
 {
     for (int round = 0; round < ROUNDS; round++)
         for (int c = 0; c < PAIRS; c++)
-            for (int w = 0; w < ALL_WORDS; w++) {
-                if (opens_otherwise(c, word_reading(w)))
+            for (int i = 0; i < 2 * ALL_WORDS; i++) {
+                int word = i / 2, reading = i % 2;
+                if (!timed(c, word, reading))
                     continue;
-                struct pair t = time_call(c, w, n, SAMPLES / ROUNDS), *to = &least[c][w];
+                struct pair t = time_call(c, word, reading, n, SAMPLES / ROUNDS), *to = &least[c][reading][word];
                 to->library = round == 0 || t.library < to->library ? t.library : to->library;
                 to->twin = round == 0 || t.twin < to->twin ? t.twin : to->twin;
             }
 }
 
-/* Every tested call on records of a reading; how many ratios are above the limit. */
-static int tested_calls(size_t n, enum reading reading)
+/* Every tested call on records of a reading, of the words made for it or for the other; how many ratios are above their
+ * limits. A turn is held against length on the same letters in the reading that the word is made for. Where the record is
+ * read the other way it has few rows or none, and the cheapest of tests; that ratio is shown too and not counted. */
+static int tested_calls(size_t n, enum reading reading, enum reading made_for)
 {
     char title[64];
-    int above = 0;
+    int above = 0, first = made_for * WORDS;
     snprintf(title, sizeof title, "%zu letters, %s", n, reading_names[reading]);
-    heading(title, reading);
+    heading(title, made_for);
     for (int c = 0; c < PAIRS; c++) {
-        if (opens_otherwise(c, reading))
+        if (!timed(c, first, reading))
             continue;
-        printf("  %-24s", calls[c].name);
-        for (int w = 0; w < WORDS; w++) {
-            const struct pair *t = &least[c][reading * WORDS + w];
-            double ratio = t->library / t->twin;
-            above += c < CALLS && ratio > RATIO_LIMIT;
-            printf("%6.1f %5.2f%s", t->library, ratio, mark(ratio, RATIO_LIMIT));
-        }
-        puts("");
+        const struct pair *times = &least[c][reading][first], *lengths = least[CALL_LENGTH][made_for] + first;
+        int slow = line(calls[c].name, RATIO_LIMIT, times);
+        above += c < CALLS ? slow : 0; /* beside a twin that loops it is marked and not counted */
+        above += is_turn(c) ? against("  over length", TURN_LIMIT, times, lengths) : 0;
+        if (is_turn(c) && reading != made_for)
+            against("  over length as it is", TURN_LIMIT, times, least[CALL_LENGTH][reading] + first);
     }
+    return above;
+}
+
+/* The tables of a size: the words in the reading that they are made for, then in the other. */
+static int tested_records(size_t n)
+{
+    int above = 0;
+    measure_calls(n);
+    for (int other = 0; other < 2; other++)
+        for (int reading = PLAIN; reading <= INVERTED; reading++)
+            above += tested_calls(n, reading, other ? !reading : reading);
     return above;
 }
 
@@ -88,7 +141,8 @@ static int rows_alike(void)
 }
 
 /* Inverted records of 1,000 letters beside plain ones with as many rows, in the library and in the twin; how many ratios
- * of the library are above the limit. The records are those that measure_calls met last. */
+ * of the library are above the limit. The records are those that measure_calls met last. Turns are left out: what they
+ * cost hangs on the rows of the other reading, which are not alike. */
 static int inverted_beside_plain(void)
 {
     printf("\nInverted records beside plain ones of as many letters and rows: time of the one over that of the other, in the "
@@ -99,15 +153,12 @@ static int inverted_beside_plain(void)
     heading("1000 letters, inverted", INVERTED);
     int above = rows_alike();
     for (int c = CALL_OPEN_INVERTED; c < CALLS; c++) {
-        int plain = c == CALL_OPEN_INVERTED ? (int)CALL_OPEN : c;
-        printf("  %-24s", calls[c].name);
-        for (int w = 0; w < WORDS; w++) {
-            const struct pair *t = &least[c][WORDS + w], *beside = &least[plain][plain_match(w)];
-            double ratio = t->library / beside->library;
-            above += ratio > READING_LIMIT;
-            printf("%6.2f%s%5.2f ", ratio, mark(ratio, READING_LIMIT), t->twin / beside->twin);
-        }
-        puts("");
+        if (is_turn(c))
+            continue;
+        struct pair plain[WORDS];
+        for (int w = 0; w < WORDS; w++)
+            plain[w] = least[c == CALL_OPEN_INVERTED ? (int)CALL_OPEN : c][PLAIN][plain_match(w)];
+        above += against(calls[c].name, READING_LIMIT, &least[c][INVERTED][WORDS], plain);
     }
     return above;
 }
@@ -157,20 +208,13 @@ static void against_surfaces(void)
     row_of_ways("remove", take);
 }
 
-/* One line of work on 1,000 letters that takes no store to test; how many ratios are above the limit. A library that
- * left other bytes than the twin counts as above. */
+/* One line of work on 1,000 letters that takes no store to test; how many ratios are above the limit. */
 static int untested(const char *name, double limit, struct pair (*time)(int word, size_t n, int samples))
 {
-    int above = 0;
-    printf("  %-24s", name);
-    for (int w = 0; w < WORDS; w++) {
-        struct pair t = time(w, LARGEST, SAMPLES);
-        double ratio = t.library / t.twin;
-        above += ratio > limit || ratio < 0;
-        printf("%6.1f %5.2f%s", t.library, ratio, mark(ratio, limit));
-    }
-    puts("");
-    return above;
+    struct pair times[WORDS];
+    for (int w = 0; w < WORDS; w++)
+        times[w] = time(w, LARGEST, SAMPLES);
+    return line(name, limit, times);
 }
 
 /* Filling a record and reading a text; how many ratios are above their limits. */
@@ -190,7 +234,7 @@ static void measure_growth(int call, int word, double *us)
 {
     for (int round = 0; round < ROUNDS; round++)
         for (int i = 0; i < POINTS; i++) {
-            double now = time_call(call, word, (size_t)(i + 1) * POINT_STEP, SAMPLES / ROUNDS).library;
+            double now = time_call(call, word, PLAIN, (size_t)(i + 1) * POINT_STEP, SAMPLES / ROUNDS).library;
             us[i] = round == 0 || now < us[i] ? now : us[i];
         }
 }
@@ -221,14 +265,15 @@ int main(int count, char **arguments)
         fprintf(stderr, "usage: bench DRAWING.svg\n");
         return 2;
     }
-    puts("Tested calls: microseconds of the library, and their ratio to the twin's; ! where above 1.5");
+    printf("Tested calls: microseconds of the library, and their ratio to the twin's; ! where above %.1f\n"
+           "Below a turn its time over that of length on the same letters, in the library and in the twin; ! where above %.1f\n",
+           RATIO_LIMIT, TURN_LIMIT);
     double test[SIZES][WORDS];
     int above = 0;
     for (int i = 0; i < SIZES; i++) {
-        measure_calls(sizes[i]);
-        above = tested_calls(sizes[i], PLAIN) + tested_calls(sizes[i], INVERTED);
+        above = tested_records(sizes[i]);
         for (int w = 0; w < WORDS; w++)
-            test[i][w] = least[TEST_ALONE][w].library;
+            test[i][w] = least[TEST_ALONE][PLAIN][w].library;
     }
     above += inverted_beside_plain();
     against_floor(test);

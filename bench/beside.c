@@ -1,9 +1,9 @@
 /* Today's library beside that of another revision, in one run: every call on five words of 1,000 letters, the two in turn,
- * on records that each made with its own calls, plain ones and, where both can open such, inverted ones. The smallest of
- * many samples counts. Where a library happens to lie in memory seems to move a short call by several per cent, so several
- * copies of each are loaded, a round on each pair. Prints ratios, today over the other, for each call and word and for each
- * call over the five words of a reading (the geometric mean), and last the largest of these: that one figure says whether
- * a call got slower.
+ * on records that each made with its own calls, plain ones and, where both can open such, inverted ones. A call that only
+ * one of them has is left out and told. The smallest of many samples counts. Where a library happens to lie in memory seems
+ * to move a short call by several per cent, so several copies of each are loaded, a round on each pair. Prints ratios, today
+ * over the other, for each call and word and for each call over the five words of a reading (the geometric mean), and last
+ * the largest of these: that one figure says whether a call got slower.
  *
  *     beside FOLDER [LIMIT]        FOLDER/today-1.so, FOLDER/other-1.so, today-2.so and so on, COPIES of each;
  *                                  ends with 1 if that figure is above the limit, or if a call was refused */

@@ -22,6 +22,8 @@ BOTH(add_left, (s->store, s->length, s->letter))
 BOTH(add_right, (s->store, s->length, s->letter))
 BOTH(remove_left, (s->store, s->length))
 BOTH(remove_right, (s->store, s->length))
+BOTH(turn_plain, (s->store, s->length))
+BOTH(turn_inverted, (s->store, s->length))
 BOTH(length, (s->store, s->length))
 BOTH(count, (s->store, s->length))
 BOTH(letter, (s->store, s->length, s->place))
@@ -47,6 +49,8 @@ const struct call calls[PAIRS] = {
     [CALL_ADD_RIGHT] = CALL(add_right, true),
     [CALL_REMOVE_LEFT] = CALL(remove_left, true),
     [CALL_REMOVE_RIGHT] = CALL(remove_right, true),
+    [CALL_TURN_PLAIN] = CALL(turn_plain, true),
+    [CALL_TURN_INVERTED] = CALL(turn_inverted, true),
     [CALL_LENGTH] = CALL(length, false),
     [CALL_COUNT] = CALL(count, false),
     [CALL_LETTER] = CALL(letter, false),

@@ -13,7 +13,8 @@ enum { CAPACITY_MOST = 1024, STORE_MOST = 48 * CAPACITY_MOST + 256, OUT_MOST = 4
 enum { SCRATCH_MOST = 4 * CAPACITY_MOST };
 
 /* The calls in the order of their table, and last the spelling call once more beside a twin that loops instead of
- * recursing. Both openings stand first, so that CALL_OPEN + reading gives that reading. */
+ * recursing. Both openings stand first, so that CALL_OPEN + reading gives that reading; CALL_TURN_PLAIN + reading turns
+ * to it. */
 enum {
     CALL_OPEN,
     CALL_OPEN_INVERTED,
@@ -21,6 +22,8 @@ enum {
     CALL_ADD_RIGHT,
     CALL_REMOVE_LEFT,
     CALL_REMOVE_RIGHT,
+    CALL_TURN_PLAIN,
+    CALL_TURN_INVERTED,
     CALL_LENGTH,
     CALL_COUNT,
     CALL_LETTER,
@@ -60,6 +63,8 @@ static inline bool opens_otherwise(int call, int reading)
 {
     return call <= CALL_OPEN_INVERTED && call != CALL_OPEN + reading;
 }
+
+static inline bool is_turn(int call) { return call == CALL_TURN_PLAIN || call == CALL_TURN_INVERTED; }
 
 /* A record of n letters of a word in a reading, 0 or 1, at the given capacity, with arguments that make each call work
  * hard: the row and the piece are those of the longest palindrome. */

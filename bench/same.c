@@ -1,8 +1,8 @@
 /* Whether the twin does the library's work: a benchmark of two programs that answer differently is worthless.
  *
- * Every call on every word in either reading, long random sittings from both ends, and damaged stores go through both, and
- * every answer and every lent byte must agree. Prints how many calls were compared, and ends with 1 at the first
- * difference. */
+ * Every call on every word in either reading, long random sittings from both ends, some with turns, and damaged stores go
+ * through both, and every answer and every lent byte must agree. Prints how many calls were compared, and ends with 1 at
+ * the first difference. */
 #include <stdio.h>
 #include <stdlib.h>
 #include <string.h>
@@ -10,6 +10,8 @@
 #include "calls.h"
 #include "cells.h"
 #include "words.h"
+
+enum { STEPS = 6000, BETWEEN_TURNS = 50 };
 
 static struct sitting here, there;
 static unsigned long compared, refused;
@@ -32,6 +34,13 @@ static void compare_all(const struct sitting *s, const char *where)
         here = there = *s;
         compare(&calls[i], where);
     }
+}
+
+/* Both turns, one after the other: a store that is refused must stay as it is, and any other is turned at least once. */
+static void compare_turns(const char *where)
+{
+    for (int reading = PLAIN; reading <= INVERTED; reading++)
+        compare(&calls[CALL_TURN_PLAIN + reading], where);
 }
 
 /* Spelling and listing into a buffer that just fits, and into one that is a byte short. */
@@ -64,6 +73,7 @@ static void readings(const struct sitting *s)
         }
         here = there = changed;
         refused += compare(&calls[CALL_LENGTH], "no reading") == 3;
+        compare_turns("no reading");
     }
 }
 
@@ -97,20 +107,32 @@ static void draw_piece(uint32_t r)
     memcpy(there.piece, here.piece, here.piece_length);
 }
 
-/* Additions and removals at both ends, with a question now and then. */
-static void sittings(uint32_t seed, enum reading reading, size_t capacity, const char *letters, int steps)
+/* What a sitting does at a step: it adds and removes at both ends, with a question now and then, and a turn, which may be
+ * to the reading in force, where it turns at all. */
+static int next_call(uint32_t r, int step, bool turning)
+{
+    int what = (int)(r / 64 % 40);
+    if (turning && step % BETWEEN_TURNS == BETWEEN_TURNS - 1)
+        return CALL_TURN_PLAIN + (int)(r / 4096 % 2);
+    if (what >= CALL_LENGTH && what < PAIRS)
+        return what;
+    bool rising = step / 300 % 3 != 2;
+    return (rising ? CALL_ADD_LEFT : CALL_REMOVE_LEFT) + (int)(r / 4096 % 2);
+}
+
+/* A sitting from an empty record on. One that turns is no stand-in for one that does not: a turn puts the rows back in their
+ * first order, which many changes at both ends have mixed. */
+static void sitting(uint32_t seed, enum reading reading, size_t capacity, const char *letters, bool turning)
 {
     seat(&here, ALL_A, reading, 0, capacity);
     there = here;
-    for (int i = 0; i < steps; i++) {
+    for (int i = 0; i < STEPS; i++) {
         uint32_t r = next_random(&seed) >> 8;
         here.letter = there.letter = (uint64_t)letters[r % strlen(letters)];
         here.row = there.row = r / 7 % (capacity + 3);
         here.place = there.place = r / 11 % (capacity + 1);
         draw_piece(r / 13);
-        size_t what = r / 64 % 40;
-        bool asks = what > CALL_REMOVE_RIGHT && what < PAIRS, rising = i / 300 % 3 != 2;
-        compare(&calls[asks ? what : (rising ? CALL_ADD_LEFT : CALL_REMOVE_LEFT) + r / 4096 % 2], "a sitting");
+        compare(&calls[next_call(r, i, turning)], turning ? "a sitting that turns" : "a sitting");
     }
 }
 
@@ -133,8 +155,8 @@ static void damage(uint32_t seed, int word, size_t n, size_t capacity, int tries
                 put(here.store, at / 24, at % 24 / 2, (next_random(&seed) >> 4) % (unsigned)(capacity + 3));
         }
         there = here;
-        if (compare(&calls[CALL_LENGTH], "a damaged store") == 3)
-            refused++;
+        refused += compare(&calls[CALL_LENGTH], "a damaged store") == 3;
+        compare_turns("a damaged store");
     }
 }
 
@@ -142,9 +164,12 @@ int main(void)
 {
     for (int reading = PLAIN; reading <= INVERTED; reading++) {
         on_words(reading);
-        sittings(7, reading, 40, reading == PLAIN ? "AC" : "AT", 6000);
-        sittings(8, reading, 300, "ACGT", 6000);
-        sittings(9, reading, 9, reading == PLAIN ? "ACG" : "ATC", 6000);
+        sitting(7, reading, 40, reading == PLAIN ? "AC" : "AT", false);
+        sitting(8, reading, 300, "ACGT", false);
+        sitting(9, reading, 9, reading == PLAIN ? "ACG" : "ATC", false);
+        sitting(10, reading, 40, "AT", true);
+        sitting(11, reading, 300, "ACGT", true);
+        sitting(12, reading, 9, "ATC", true);
     }
     for (int word = 0; word < BOTH_WORDS; word++) {
         damage((uint32_t)word + 1, word, 9, 12, 8000);

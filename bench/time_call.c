@@ -4,7 +4,6 @@
 #include "calls.h"
 #include "clock.h"
 #include "timing.h"
-#include "words.h"
 
 static struct sitting before, s;
 static volatile uint64_t sink;
@@ -18,12 +17,12 @@ static int64_t sample(const struct call *call, uint64_t (*run)(struct sitting *)
     return now_ns() - from;
 }
 
-struct pair time_call(int index, int word, size_t n, int samples)
+struct pair time_call(int index, int word, int reading, size_t n, int samples)
 {
     const struct call *call = &calls[index];
     size_t capacity = n + 24, used = 25 * capacity + 48;
     int64_t cost = clock_cost(), library = INT64_MAX, twin = INT64_MAX;
-    seat(&before, word, word_reading(word), n, capacity);
+    seat(&before, word, reading, n, capacity);
     s = before;
     for (int i = 0; i < samples; i++) {
         library = smaller(library, sample(call, call->library, used));

@@ -11,15 +11,15 @@ struct pair {
     double library, twin;
 };
 
-/* The ratio that a tested call may reach at 1,000 letters, the one for reading FASTA, and the one of a call on an inverted
- * record to the same call on a plain one with as many letters and rows. */
+/* The ratio that a tested call may reach at 1,000 letters, the one for reading FASTA, the one of a call on an inverted record
+ * to the same call on a plain one with as many letters and rows, and the one of a turn to length on the same record. */
 #define RATIO_LIMIT 1.5
 #define FASTA_LIMIT 1.2
 #define READING_LIMIT 1.2
+#define TURN_LIMIT 3.0
 
-/* One call on n letters of a word, in the reading that it is made for; the smallest of many samples, library and twin in
- * turn. */
-struct pair time_call(int call, int word, size_t n, int samples);
+/* One call on n letters of a word in a reading, 0 or 1; the smallest of many samples, library and twin one after the other. */
+struct pair time_call(int call, int word, int reading, size_t n, int samples);
 
 /* One pass that reads the bytes that a store of this capacity uses. */
 double time_floor(size_t capacity, int samples);

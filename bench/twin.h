@@ -19,6 +19,8 @@ uint64_t twin_add_left(uint8_t *store, size_t length, uint64_t letter);
 uint64_t twin_add_right(uint8_t *store, size_t length, uint64_t letter);
 uint64_t twin_remove_left(uint8_t *store, size_t length);
 uint64_t twin_remove_right(uint8_t *store, size_t length);
+uint64_t twin_turn_plain(uint8_t *store, size_t length);
+uint64_t twin_turn_inverted(uint8_t *store, size_t length);
 uint64_t twin_length(const uint8_t *store, size_t length);
 uint64_t twin_count(const uint8_t *store, size_t length);
 uint64_t twin_longest(const uint8_t *store, size_t length);
@@ -36,6 +38,9 @@ uint64_t twin_list(const uint8_t *store, size_t length, const uint8_t *identifie
 void bare_open(uint8_t *store, size_t capacity, enum reading reading);
 uint64_t bare_add(uint8_t *store, enum side side, uint8_t letter);
 uint64_t bare_remove(uint8_t *store, enum side side);
+/* Letters and capacity stay, and the rows are those of the letters added at the right of a record opened in this reading;
+ * nothing is written where that is the reading already. */
+void bare_turn(uint8_t *store, enum reading reading);
 size_t bare_list(const uint8_t *store, const uint8_t *name, size_t name_length, uint8_t *scratch, uint8_t *out);
 
 /* Opens a plain record of the largest capacity and adds each letter at the right, with no test of the store. */

@@ -38,7 +38,17 @@ static uint64_t take(uint8_t *store, size_t length, enum side side)
     return bare_remove(store, side);
 }
 
+static uint64_t turn(uint8_t *store, size_t length, enum reading reading)
+{
+    if (!twin_is_good(store, length))
+        return 3;
+    bare_turn(store, reading);
+    return 0;
+}
+
 uint64_t twin_add_left(uint8_t *store, size_t length, uint64_t letter) { return add(store, length, LEFT, letter); }
 uint64_t twin_add_right(uint8_t *store, size_t length, uint64_t letter) { return add(store, length, RIGHT, letter); }
 uint64_t twin_remove_left(uint8_t *store, size_t length) { return take(store, length, LEFT); }
 uint64_t twin_remove_right(uint8_t *store, size_t length) { return take(store, length, RIGHT); }
+uint64_t twin_turn_plain(uint8_t *store, size_t length) { return turn(store, length, PLAIN); }
+uint64_t twin_turn_inverted(uint8_t *store, size_t length) { return turn(store, length, INVERTED); }

@@ -1,6 +1,5 @@
 /* The twin's changes: opening, an addition and a removal, byte for byte what the library leaves. */
-#include "links.h"
-#include "twin.h"
+#include "adding.h"
 
 void bare_open(uint8_t *b, size_t capacity, enum reading reading)
 {
@@ -16,39 +15,7 @@ void bare_open(uint8_t *b, size_t capacity, enum reading reading)
     }
 }
 
-/* The palindrome that d makes around row u stood nowhere: writes its row, the first free one. */
-static unsigned hang(uint8_t *b, struct view v, unsigned u, uint8_t d)
-{
-    unsigned count = count_of(b), row = get(b, count + 2, ORDER);
-    unsigned link = u == IMAGINARY ? (unsigned)EMPTY : step(b, v, size_of(b), get(b, u, LINK), d);
-    put(b, row, LENGTH, get(b, u, LENGTH) + 2);
-    put(b, row, LINK, link);
-    put(b, row, INNER, u);
-    put(b, row, OUTER, d);
-    put_edge(b, u, d, row);
-    put(b, 0, 10, count + 1);
-    return row;
-}
-
-uint64_t bare_add(uint8_t *b, enum side side, uint8_t letter)
-{
-    unsigned n = size_of(b);
-    struct view v = view_of(b, side);
-    uint8_t d = v.seen_as[letter];
-    unsigned u = walk(b, v, n, end_row(b, side), d), row = made(b, v, u, d);
-    bool is_new = row == 0;
-    if (is_new)
-        row = hang(b, v, u, d);
-    uint8_t *w = b + (letters_of(b) - b);
-    if (side == LEFT)
-        memmove(w + 1, w, n);
-    w[side == LEFT ? 0 : n] = letter;
-    put(b, 0, 9, n + 1);
-    set_end_row(b, side, row);
-    if (get(b, row, LENGTH) == n + 2)
-        set_end_row(b, side == LEFT ? RIGHT : LEFT, row);
-    return is_new ? answer(true, row, 0, 0) : 0;
-}
+uint64_t bare_add(uint8_t *b, enum side side, uint8_t letter) { return add_in(b, view_of(b, side), side, letter); }
 
 /* Clears row q and the edge that leads to it; it changes places with the last row in use. */
 static void drop(uint8_t *b, unsigned q)
@@ -84,13 +51,4 @@ uint64_t bare_remove(uint8_t *b, enum side side)
     if (!met)
         drop(b, q);
     return met ? answer(false, 0, letter, 0) : answer(true, q, letter, 0);
-}
-
-uint64_t twin_fill(uint8_t *b, size_t length, const uint8_t *letters, size_t n)
-{
-    (void)length;
-    bare_open(b, 1024, PLAIN);
-    for (size_t i = 0; i < n; i++)
-        bare_add(b, RIGHT, letters[i]);
-    return n;
 }

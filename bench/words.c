@@ -11,7 +11,11 @@
  *     Fibonacci        1000, 998    as letters again. The Fibonacci word is taken from the place on at which the longest
  *                                   is as long as in the plain record, 985 and 984 letters, since spell and find get it
  *     Thue-Morse       788, 788     over A and T, from a place on that gives the number of rows. No place gives that and
- *                                   the longest repeat's length, 976 and 512: spell and find have less to do here */
+ *                                   the longest repeat's length, 976 and 512: spell and find have less to do here
+ *
+ * Turns are timed on records of either reading for all of these words but `few`. In the reading that they are not made for,
+ * those over A or A and C have no row at all, since no letter meets its partner; (AT)* and Thue-Morse over A and T have 1000
+ * and 788, (ATCG)* and the Fibonacci word with partners 4 and 6. */
 #include "words.h"
 
 #include <string.h>
