@@ -49,9 +49,10 @@ add-requires c κs =
     let room = s .pre .1 .1 in
     let at-most = k .inv .1 in
     let p = next-partner _ _ g all room (k .i) at-most (more c) _ (table .table .result) (table .before .reading .ensures .0) (table .table .ensures) in
-    rw (k .inv .0)
-    (first-ones _ _ g all room (k .i) at-most .good,
-    ((next-letter _ _ g all room (k .i) at-most (more c), c .partner-in .ensures ∙ p), next-room _ _ g all room (k .i) at-most (more c)))
+    rw (k .inv .0) (
+      first-ones _ _ g all room (k .i) at-most .good,
+      ((next-letter _ _ g all room (k .i) at-most (more c), c .partner-in .ensures ∙ p), next-room _ _ g all room (k .i) at-most (more c)),
+    )
 
 loop-again : tie.Need-loop-again Inv-loop μ-loop
 loop-again c =
