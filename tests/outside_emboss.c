@@ -5,7 +5,8 @@
  * its letters must be found, in a row of twice the arm's length that spells them. Then the other way round, where ARM is not
  * 0 but the shortest arm that the account was asked for: every place that trying each stretch finds, with arms as long as
  * they can be there and at least that long, must be in the account once, and the repeats inside its places must be all that
- * the library has of that length. tests/outside-emboss says what else EMBOSS leaves out.
+ * the library has of that length. tests/outside-emboss says what else EMBOSS leaves out. A second record of the piece is opened
+ * plain and turned to the inverted reading half-way: it must list the same repeats.
  *
  * Prints how many places the account has and how many distinct repeats lie in them; ends with 1 at the first difference. */
 #include "mirror.h"
@@ -17,7 +18,7 @@ enum { MOST = 1024, LINE = 4 * MOST };
 
 static char letters[MOST + 2];
 static size_t n;
-static uint8_t store[MIRROR_STORE_SIZE(MOST)];
+static uint8_t store[MIRROR_STORE_SIZE(MOST)], turned[sizeof store];
 static unsigned char reported[MOST][MOST / 2 + 1]; /* by the place of the first letter and the arm's length */
 static unsigned char seen[MOST + 2];               /* rows */
 static size_t places, repeats;
@@ -57,17 +58,31 @@ static void read_letters(const char *path)
     if (n < 1 || n > MOST || strspn(letters, "ACGT") != n) no_input(path, "not 1 to 1,024 letters A, C, G and T");
 }
 
-/* the record, from the middle of the piece on at both ends in turn */
-static void make_record(void)
+/* a record, from the middle of the piece on at both ends in turn; one that was opened plain is turned half-way */
+static void make_record(uint8_t *to, int opened_plain)
 {
     size_t left = n / 2, right = n / 2;
-    int refused = mirror_refusal(mirror_open_inverted(store, sizeof store, MOST)) != 0;
+    unsigned refused = mirror_refusal((opened_plain ? mirror_open : mirror_open_inverted)(to, sizeof store, MOST));
     while (left > 0 || right < n) {
-        if (right < n) refused |= mirror_refusal(mirror_add_right(store, sizeof store, (unsigned char)letters[right++])) != 0;
-        if (left > 0) refused |= mirror_refusal(mirror_add_left(store, sizeof store, (unsigned char)letters[--left])) != 0;
+        if (opened_plain && left == n / 4) refused |= mirror_refusal(mirror_turn_inverted(to, sizeof store));
+        if (right < n) refused |= mirror_refusal(mirror_add_right(to, sizeof store, (unsigned char)letters[right++]));
+        if (left > 0) refused |= mirror_refusal(mirror_add_left(to, sizeof store, (unsigned char)letters[--left]));
     }
+    if (opened_plain) refused |= mirror_refusal(mirror_turn_inverted(to, sizeof store)); /* two letters have no way between */
     if (!refused) return;
     puts("the library refuses the letters");
+    exit(1);
+}
+
+/* both records list the same repeats, each at its first place; no row number is in a list */
+static void same_when_turned(void)
+{
+    static uint8_t lists[2][MIRROR_LIST_SIZE(MOST)], scratch[MIRROR_LIST_SCRATCH(MOST)];
+    const uint8_t name[] = {'p'};
+    uint64_t one = mirror_list(store, sizeof store, name, 1, scratch, sizeof scratch, lists[0], sizeof lists[0]);
+    uint64_t other = mirror_list(turned, sizeof turned, name, 1, scratch, sizeof scratch, lists[1], sizeof lists[1]);
+    if (mirror_refusal(one) == 0 && one == other && memcmp(lists[0], lists[1], mirror_first(one)) == 0) return;
+    printf("a record that is turned half-way lists other repeats in %s\n", letters);
     exit(1);
 }
 
@@ -173,7 +188,9 @@ int main(int argc, char **argv)
     if (argc != 4) return 2;
     size_t shortest = strtoul(argv[3], NULL, 10);
     read_letters(argv[1]);
-    make_record();
+    make_record(store, 0);
+    make_record(turned, 1);
+    same_when_turned();
     read_account(argv[2], shortest);
     if (shortest > 0) {
         nothing_left_out(shortest);

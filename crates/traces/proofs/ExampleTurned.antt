@@ -1,5 +1,6 @@
 -- A list of calls that changes the reading in the middle: A and T join the right end of a plain record, the record is turned to the inverted reading and once more to the same, and T joins at the right. What
--- the theorem says of it: AT comes in with the turn and is found, A, which was a repeat until then, is absent, the second turn leaves every byte, and AT keeps its row.
+-- the theorem says of it: AT comes in with the turn and is found, A, which was a repeat until then, is absent, the second turn leaves every byte, AT keeps its row, and an
+-- addition after the turns is undone.
 use Prim.Native.Nat.{ℕ}
 use native.Mathlib.Omega.{arith}
 use mathlib.Core.Path.{_≡_, refl, sym, subst}
@@ -11,13 +12,13 @@ use Rattle.palindromes.specs.Reading.{asPlain, asInverted, complement, readingN
 use Rattle.palindromes.specs.Place.{Stands}
 use Rattle.palindromes.specs.Record.{palindromes}
 use Rattle.palindromes.specs.End.{atRight, added, notAmong}
-use Rattle.palindromes.specs.Refusal.{find, add, turn}
-use Rattle.outcome.specs.Reply.{accepted, unpacked}
+use Rattle.palindromes.specs.Refusal.{find, add, remove, turn}
+use Rattle.outcome.specs.Reply.{accepted, refusalIn, unpacked}
 use Rattle.outcome.specs.Promise.{nothing}
 use Rattle.traces.specs.Run.{Step, storeAfter, Run, begun, lettersStep, lettersAfter, readingStep, readingAfter, rowAfter}
-use Rattle.traces.specs.Claims.{Replies, Table, Turned, Kept, EachCall, Claims}
-use Rattle.traces.proofs.Possible.{stepOf}
-use Rattle.traces.proofs.Example.{start, more, one-more, claims-of, ClaimedIn}
+use Rattle.traces.specs.Claims.{Replies, Table, Turned, Kept, EachCall, Undone, Claims}
+use Rattle.traces.proofs.Possible.{stepOf, keeps-contract}
+use Rattle.traces.proofs.Example.{start, more, one-more, claims-of, stays-good, ClaimedIn}
 
 pub with-AT : List Step
 with-AT = more (more [] (add atRight 65)) (add atRight 84)
@@ -155,3 +156,28 @@ AT-standing = AT-then
 pub AT-kept : Kept (65 ∷ 84 ∷ []) (λ w. rowAfter 0 3 inverted w) (λ w. rowAfter 0 3 (more inverted (turn asInverted)) w) (storeAfter start inverted) (second-step .store)
 unfolding readingStep lettersStep readingNumber
 AT-kept = of-second .kept (65 ∷ 84 ∷ []) AT-repeat AT-standing AT-repeat AT-standing
+
+-- ---- T added at the right and taken back, after the turns: every byte and every answer as before
+
+abbrev first : Step
+first = stepOf (add atRight 84) (storeAfter start again) nothing
+
+abbrev second : Step
+second = stepOf (remove atRight) (first .store) nothing
+
+again-run : Run start again
+unfolding again inverted with-AT
+again-run = one-more (one-more (one-more (one-more begun (add atRight 65) tt) (add atRight 84) tt) (turn asInverted) tt) (turn asInverted) tt
+
+first-accepted : refusalIn (first .answer) ≡ 0
+unfolding EachCall with-ATT isLetter unpacked
+first-accepted = turned-claims .each .0 .addition atRight 84 refl .accepted-if (rw letters-again refl)
+
+longer : Run start (more again (add atRight 84))
+longer = one-more again-run (add atRight 84) tt
+
+pub taken-back-after-turns : Undone (storeAfter start again) 84 first second
+unfolding storeAfter
+taken-back-after-turns =
+    claims-of asPlain again-run .undone atRight 84 first second refl (keeps-contract (add atRight 84) (storeAfter start again) nothing (stays-good asPlain again-run) tt) first-accepted refl
+    (keeps-contract (remove atRight) (first .store) nothing (stays-good asPlain longer) tt)
