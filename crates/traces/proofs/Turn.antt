@@ -5,7 +5,7 @@ use native.Mathlib.Omega.{arith}
 use mathlib.Core.Path.{_≡_, refl, sym, ap, _∙_, subst}
 use mathlib.Core.Bool.{Bool, true, false, cond, not}
 use lib.Dec.{eqb}
-use borrow.Author.Tests.{eqb-true, eqb-false, eq-eqb}
+use borrow.Author.Tests.{eqb-true, eq-eqb}
 use Rattle.palindromes.specs.Word.{Word, allLetters, member}
 use Rattle.palindromes.specs.Palindrome.{Palindrome}
 use Rattle.palindromes.specs.Reading.{Reading, readingNumber, ruleIn}

@@ -104,8 +104,8 @@ pub record Turned (m n k : ℕ) (s : Word) (row row′ : Word → ℕ) (b b′ :
   pub none-kept : (m ≡ n → ⊥) → (w : Word) → Palindrome (ruleIn m) w → Stands w s → Palindrome (ruleIn n) w → ⊥
   pub old-absent : (m ≡ n → ⊥) → (w : Word) → Palindrome (ruleIn m) w → Stands w s → Replies (find w) b′ (accepted false 0 0 0)
 
--- a repeat that stands before and after a call keeps its row, and the row's length, link and inner row: find answers the same number on both stores, and so
--- does the row question for that row, whose answer holds the three
+-- a repeat that stands before and after a call, each time as one of the reading then in force, keeps its row, and the row's length, link and inner row: find
+-- answers the same number on both stores, and so does the row question for that row, whose answer holds the three
 pub record Kept (w : Word) (row row′ : Word → ℕ) (b b′ : Word) : Type 0 where
   pub same-row : row′ w ≡ row w
   pub same-found : SameAnswer (find w) b b′

@@ -1,7 +1,7 @@
 -- `turning::remake` sets the letters aside, opens the store and fills it. Assumes nothing.
 use native.Mathlib.Omega.{arith}
 use borrow.Author.Needs.{needs}
-use mathlib.Core.Path.{sym, _∙_}
+use mathlib.Core.Path.{sym}
 use lib.Seq.{length-take-le}
 use Rattle.palindromes.proofs.Readings.{number-below}
 use Rattle.walk.proofs.Stores.{header-fits}
