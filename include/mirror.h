@@ -4,9 +4,9 @@
  * that a damaged one is refused and never followed. Opening needs no good store: it makes an empty record of whatever the
  * bytes held, a live record too. Buffers of one call must not overlap. Nothing is allocated.
  *
- * A record is plain or inverted, as it was opened or last turned, and every call that takes a store works on either. A repeat of a
- * plain record is a stretch that equals its reversal; of an inverted one, a stretch that equals its reversal with every
- * letter replaced by its partner, A with T and C with G, as restriction sites do.
+ * A record is plain or inverted, as it was opened or last turned, and every call that takes a store works on either. A
+ * repeat of a plain record is a stretch that equals its reversal; of an inverted one, a stretch that equals its reversal
+ * with every letter replaced by its partner, A with T and C with G, as restriction sites do.
  *
  * Every call answers one number: byte 0 (lowest) is the refusal number, 0 where the call was carried out; byte 1 a
  * flag; bytes 2 and 3 a row; bytes 4 and 5 a first, bytes 6 and 7 a second number. A refusal is its number and zero
@@ -49,10 +49,10 @@ uint64_t mirror_add_left(uint8_t *store, size_t length, uint64_t letter);
 uint64_t mirror_add_right(uint8_t *store, size_t length, uint64_t letter);
 uint64_t mirror_remove_left(uint8_t *store, size_t length);
 uint64_t mirror_remove_right(uint8_t *store, size_t length);
-/* Turn a record to a reading: the letters and the capacity stay, and the table is that of the same letters in this reading, so
- * every repeat of the other reading goes and every one of this comes in. Rows kept from before are void: the rows are those
- * of a record opened in this reading, with the letters added at the right in order. A record that has the reading already
- * keeps every byte. */
+/* Turn a record to a reading: the letters and the capacity stay, and the table is that of the same letters in this
+ * reading, so every repeat of the other reading goes and every one of this comes in. Row numbers from before are void: the
+ * rows are those of a record opened in this reading, with the letters added at the right in order. A record that has the
+ * reading already keeps every byte, and its rows. */
 uint64_t mirror_turn_plain(uint8_t *store, size_t length);
 uint64_t mirror_turn_inverted(uint8_t *store, size_t length);
 uint64_t mirror_length(const uint8_t *store, size_t length);

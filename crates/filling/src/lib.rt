@@ -13,8 +13,8 @@ ghost use Rattle.store.specs.Good.{Good};
 ghost use Rattle.store.specs.Layout.{capacityIn, sizeIn};
 ghost use Rattle.transitions.specs.Turning.{afterAdditions};
 
-// Adds letters at the right of a record that has room for them. The table of partners is made once, and
-// not looked into the constant for each letter.
+// Adds letters at the right of a record that has room for them. Their partners come from a table that is
+// made once, since the constant is copied wherever it is looked into.
 pub fn fill(store: &mut [u8], letters: &[u8])
     requires { ⌜ Good (now store) ⌝ }
     requires { ⌜ (allLetters (now letters) ≡ true) × (sizeIn (now store) + length (now letters) ≤ capacityIn (now store)) ⌝ }

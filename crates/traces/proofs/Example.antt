@@ -206,7 +206,7 @@ rowNow w = rowAfter 0 3 calls w
 its-table : Table 0 3 (lettersAfter 3 calls) rowNow end
 its-table = subst (λ (m : ℕ). Table m 3 (lettersAfter 3 calls) rowNow end) plain-left (its-claims .table)
 
-letter : (c : ℕ) → Palindrome (ruleIn 0) (c ∷ [])
+pub letter : (c : ℕ) → Palindrome (ruleIn 0) (c ∷ [])
 unfolding mirror ruleIn
 letter c = record { non-empty = cons-ne-nil c []; symmetric = refl }
 

@@ -64,7 +64,7 @@ rowNow w = rowAfter 1 3 with-AT w
 its-table : Table 1 3 (lettersAfter 3 with-AT) rowNow end
 its-table = subst (λ (m : ℕ). Table m 3 (lettersAfter 3 with-AT) rowNow end) inverted-AT (inverted-claims .table)
 
-AT-repeat : Palindrome (ruleIn 1) (65 ∷ 84 ∷ [])
+pub AT-repeat : Palindrome (ruleIn 1) (65 ∷ 84 ∷ [])
 unfolding mirror ruleIn complement
 AT-repeat = record { non-empty = cons-ne-nil 65 (84 ∷ []); symmetric = refl }
 

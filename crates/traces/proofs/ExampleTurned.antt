@@ -5,10 +5,9 @@ use Prim.Native.Nat.{ℕ}
 use native.Mathlib.Omega.{arith}
 use mathlib.Core.Path.{_≡_, refl, sym, subst}
 use mathlib.Core.Bool.{true, false}
-use mathlib.Core.List.{List, [], _∷_, cons-ne-nil}
+use mathlib.Core.List.{List, [], _∷_}
 use Rattle.palindromes.specs.Word.{Word, isLetter}
-use Rattle.palindromes.specs.Palindrome.{mirror, Palindrome}
-use Rattle.palindromes.specs.Reading.{asPlain, asInverted, complement, readingNumber, ruleIn}
+use Rattle.palindromes.specs.Reading.{asPlain, asInverted, readingNumber, ruleIn}
 use Rattle.palindromes.specs.Place.{Stands}
 use Rattle.palindromes.specs.Record.{palindromes}
 use Rattle.palindromes.specs.End.{atRight, added, notAmong}
@@ -18,7 +17,8 @@ use Rattle.outcome.specs.Promise.{nothing}
 use Rattle.traces.specs.Run.{Step, storeAfter, Run, begun, lettersStep, lettersAfter, readingStep, readingAfter, rowAfter}
 use Rattle.traces.specs.Claims.{Replies, Table, Turned, Kept, EachCall, Undone, Claims}
 use Rattle.traces.proofs.Possible.{stepOf, keeps-contract}
-use Rattle.traces.proofs.Example.{start, more, one-more, claims-of, stays-good, ClaimedIn}
+use Rattle.traces.proofs.Example.{start, more, one-more, claims-of, stays-good, letter, ClaimedIn}
+use Rattle.traces.proofs.ExampleInverted.{AT-repeat}
 
 pub with-AT : List Step
 with-AT = more (more [] (add atRight 65)) (add atRight 84)
@@ -32,9 +32,13 @@ again = more inverted (turn asInverted)
 pub with-ATT : List Step
 with-ATT = more again (add atRight 84)
 
+again-run : Run start again
+unfolding again inverted with-AT
+again-run = one-more (one-more (one-more (one-more begun (add atRight 65) tt) (add atRight 84) tt) (turn asInverted) tt) (turn asInverted) tt
+
 turned-run : Run start with-ATT
-unfolding with-ATT again inverted with-AT
-turned-run = one-more (one-more (one-more (one-more (one-more begun (add atRight 65) tt) (add atRight 84) tt) (turn asInverted) tt) (turn asInverted) tt) (add atRight 84) tt
+unfolding with-ATT
+turned-run = one-more again-run (add atRight 84) tt
 
 pub turned-claims : Claims 0 3 start with-ATT
 unfolding readingNumber
@@ -81,10 +85,6 @@ rowNow w = rowAfter 0 3 with-ATT w
 its-table : Table 1 3 (lettersAfter 3 with-ATT) rowNow end
 its-table = subst (λ (m : ℕ). Table m 3 (lettersAfter 3 with-ATT) rowNow end) inverted-after (turned-claims .table)
 
-AT-repeat : Palindrome (ruleIn 1) (65 ∷ 84 ∷ [])
-unfolding mirror ruleIn complement
-AT-repeat = record { non-empty = cons-ne-nil 65 (84 ∷ []); symmetric = refl }
-
 AT-stands : Stands (65 ∷ 84 ∷ []) (lettersAfter 3 with-ATT)
 AT-stands = record { before = []; after = 84 ∷ []; whole = sym letters-ATT }
 
@@ -127,15 +127,11 @@ pub A-and-T-went : notAmong (palindromes (ruleIn 1) (lettersAfter 3 with-AT)) (p
 A-and-T-went = of-turned .goes-out differ
 
 -- find answers A absent right after it, though A stands and was a repeat until then
-A-was : Palindrome (ruleIn 0) (65 ∷ [])
-unfolding mirror ruleIn
-A-was = record { non-empty = cons-ne-nil 65 []; symmetric = refl }
-
 A-stood : Stands (65 ∷ []) (lettersAfter 3 with-AT)
 A-stood = record { before = []; after = 84 ∷ []; whole = sym letters-AT }
 
 pub A-absent : Replies (find (65 ∷ [])) (turn-step .store) (accepted false 0 0 0)
-A-absent = of-turned .old-absent differ (65 ∷ []) A-was A-stood
+A-absent = of-turned .old-absent differ (65 ∷ []) (letter 65) A-stood
 
 -- and AT found, with the row that the ledger has from then on
 AT-then : Stands (65 ∷ 84 ∷ []) (lettersAfter 3 with-AT)
@@ -165,19 +161,12 @@ first = stepOf (add atRight 84) (storeAfter start again) nothing
 abbrev second : Step
 second = stepOf (remove atRight) (first .store) nothing
 
-again-run : Run start again
-unfolding again inverted with-AT
-again-run = one-more (one-more (one-more (one-more begun (add atRight 65) tt) (add atRight 84) tt) (turn asInverted) tt) (turn asInverted) tt
-
 first-accepted : refusalIn (first .answer) ≡ 0
 unfolding EachCall with-ATT isLetter unpacked
 first-accepted = turned-claims .each .0 .addition atRight 84 refl .accepted-if (rw letters-again refl)
 
-longer : Run start (more again (add atRight 84))
-longer = one-more again-run (add atRight 84) tt
-
 pub taken-back-after-turns : Undone (storeAfter start again) 84 first second
-unfolding storeAfter
+unfolding storeAfter with-ATT
 taken-back-after-turns =
     claims-of asPlain again-run .undone atRight 84 first second refl (keeps-contract (add atRight 84) (storeAfter start again) nothing (stays-good asPlain again-run) tt) first-accepted refl
-    (keeps-contract (remove atRight) (first .store) nothing (stays-good asPlain longer) tt)
+    (keeps-contract (remove atRight) (first .store) nothing (stays-good asPlain turned-run) tt)
