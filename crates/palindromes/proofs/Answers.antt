@@ -50,7 +50,7 @@ module _ (σ : ℕ → ℕ) where
   -- ---- the longest palindrome
 
   -- a record with no palindrome answers 0 twice
-  none-length : (s : Word) → palindromes σ s ≡ [] → longestLength σ s ≡ 0
+  pub none-length : (s : Word) → palindromes σ s ≡ [] → longestLength σ s ≡ 0
   unfolding longestLength greatest
   none-length s e = ap (λ (l : List Word). greatest (map length l)) e
 
@@ -66,7 +66,7 @@ module _ (σ : ℕ → ℕ) where
   longest-place-empty = none-place [] (palindromes-empty σ)
 
   -- nothing that equals its reversal is longer than the longest palindrome, the empty word among it
-  symmetric-most : (w s : Word) → Symmetric σ w → Stands w s → length w ≤ longestLength σ s
+  pub symmetric-most : (w s : Word) → Symmetric σ w → Stands w s → length w ≤ longestLength σ s
   symmetric-most [] s h k = omega arith
   symmetric-most (x ∷ w) s h k = longest-length-most σ (x ∷ w) s (record { non-empty = cons-ne-nil x w; symmetric = h }) k
 
@@ -85,7 +85,7 @@ module _ (σ : ℕ → ℕ) where
       new n = rw (fresh-new v p n) (omega arith)
 
   -- a record has no palindrome or some, and some if one stands in it
-  none-or-some : (s : Word) → (palindromes σ s ≡ []) ⊎ (0 < count σ s)
+  pub none-or-some : (s : Word) → (palindromes σ s ≡ []) ⊎ (0 < count σ s)
   unfolding count
   none-or-some s = go (palindromes σ s)
     where

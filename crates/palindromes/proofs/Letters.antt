@@ -1,15 +1,15 @@
--- The four letters, case by case; and a word is one of letters exactly if each of its letters is one. Rests on the tests of proofs/Lists.antt only. Assumes nothing.
+-- The four letters, case by case; each letter of a word of letters is one, and two words joined are of letters exactly if both are. Rests on the tests of proofs/Lists.antt only. Assumes nothing.
 use Prim.Native.Nat.{ℕ, zero, suc, _<_}
 use native.Mathlib.Omega.{arith}
 use mathlib.Core.Path.{_≡_, refl, sym, subst}
-use mathlib.Core.Bool.{true, _||_}
+use mathlib.Core.Bool.{true, _&&_, _||_, and-assoc}
 use mathlib.Core.Logic.{⊎-elim}
-use mathlib.Core.List.{[], _∷_}
+use mathlib.Core.List.{[], _∷_, _++_}
 use lib.Dec.{eqb}
 use lib.ListN.{length, getD}
 use borrow.Author.Tests.{eqb-true}
 use Rattle.palindromes.specs.Word.{Word, isLetter, allLetters}
-use Rattle.palindromes.proofs.Tests.{both-true, both-are}
+use Rattle.palindromes.proofs.Tests.{both-true}
 use Rattle.palindromes.proofs.Lists.{either-true}
 
 -- what holds of each of the four letters holds of every letter
@@ -38,7 +38,8 @@ letter-of [] k l h = absurd (omega arith)
 letter-of (x ∷ s) zero l h = both-true (isLetter x) (allLetters s) h .0
 letter-of (x ∷ s) (suc k) l h = letter-of s k (omega arith) (both-true (isLetter x) (allLetters s) h .1)
 
-pub letters-all : (s : Word) → ((i : ℕ) → i < length s → isLetter (getD s i 0) ≡ true) → allLetters s ≡ true
+-- two words joined are of letters exactly if both are
+pub letters-append : (u v : Word) → allLetters (u ++ v) ≡ (allLetters u && allLetters v)
 unfolding allLetters
-letters-all [] h = refl
-letters-all (x ∷ s) h = both-are (isLetter x) (allLetters s) (h 0 (omega arith)) (letters-all s λ i l. h (suc i) (omega arith))
+letters-append [] v = refl
+letters-append (x ∷ u) v = cc (letters-append u v, and-assoc (isLetter x) (allLetters u) (allLetters v))

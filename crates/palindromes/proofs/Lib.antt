@@ -14,6 +14,7 @@ pub mod NewIn
 pub mod Order
 pub mod Across
 pub mod Answers
+pub mod Lengths
 pub mod Listing
 pub mod Search
 pub mod Readings

@@ -168,15 +168,20 @@ module _ (σ : ℕ → ℕ) where
       let p = palindromes-true σ (r .0) s (member-is (r .1)) in
       (r .0, p .0, p .1, r .2)
 
-  -- it is not longer than the record
-  pub longest-length-fits : (s : Word) → longestLength σ s ≤ length s
+  -- what bounds each palindrome's length bounds the largest
+  pub longest-length-bound : (n : ℕ) (s : Word) → ((w : Word) → Palindrome σ w → Stands w s → length w ≤ n) → longestLength σ s ≤ n
   unfolding longestLength
-  longest-length-fits s = greatest-bound (length s) (map length (palindromes σ s)) fits
+  longest-length-bound n s h = greatest-bound n (map length (palindromes σ s)) bounded
     where
-      fits : (k : ℕ) → List·Memᴰ k (map length (palindromes σ s)) → k ≤ length s
-      fits k m =
+      bounded : (k : ℕ) → List·Memᴰ k (map length (palindromes σ s)) → k ≤ n
+      bounded k m =
           let r = Memᴰ·of-map length (palindromes σ s) m in
-          omega (arith, r .2, stands-length (palindromes-true σ (r .0) s (member-is (r .1)) .1))
+          let p = palindromes-true σ (r .0) s (member-is (r .1)) in
+          omega (arith, r .2, h (r .0) (p .0) (p .1))
+
+  -- so it is not longer than the record
+  pub longest-length-fits : (s : Word) → longestLength σ s ≤ length s
+  longest-length-fits s = longest-length-bound (length s) s λ w p h. stands-length h
 
   -- the palindromes of that length, in their order
   longestOnes : Word → List Word

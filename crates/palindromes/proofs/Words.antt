@@ -1,7 +1,7 @@
 -- Cuts of words: two cuts of one word (Levi's lemma), words by their last letter, the order laws of `Suffix`, `Prefix` and `Stands`, and what an addition
 -- and a removal at an end do to each other.
 -- Rests on the library's laws of `_++_` and `length`, and on the test of equal words in `Tests`; nothing here knows of palindromes.
-use Prim.Native.Nat.{ℕ, suc, _≤_}
+use Prim.Native.Nat.{ℕ, suc, _≤_, _<_}
 use native.Mathlib.Omega.{arith}
 use mathlib.Core.Path.{_≡_, refl, sym, ap, _∙_}
 use mathlib.Core.Logic.{_⊎_, inl, inr, ⊎-elim}
@@ -24,10 +24,14 @@ levi (x ∷ a) b (y ∷ c) d h e =
 
 -- ---- the last letter
 
--- the word of no length
+-- the word of no length, and a word of some
 pub no-letters : (w : Word) → length w ≤ 0 → w ≡ []
 no-letters [] h = refl
 no-letters (x ∷ w) h = absurd (omega arith)
+
+pub some-letters : (w : Word) → (w ≡ [] → ⊥) → 0 < length w
+some-letters [] n = absurd (n refl)
+some-letters (x ∷ w) n = omega arith
 
 -- words that end with a letter are equal letter by letter from the right too
 pub snoc-injective : (u v : Word) (x y : ℕ) → u ++ (x ∷ []) ≡ v ++ (y ∷ []) → (u ≡ v) × (x ≡ y)

@@ -34,6 +34,10 @@ palindromes σ s = distinct (keep (isPalindrome σ) (stretches s))
 unfoldable pub count : (ℕ → ℕ) → Word → ℕ
 count σ s = length (palindromes σ s)
 
+-- 02 (ii) "how many repeats there are of each length"
+unfoldable pub countOfLength : (ℕ → ℕ) → ℕ → Word → ℕ
+countOfLength σ k s = length (keep (λ p. eqb (length p) k) (palindromes σ s))
+
 -- the greatest of a list of numbers, 0 where there is none
 unfoldable pub greatest : List ℕ → ℕ
 greatest [] = zero
@@ -45,7 +49,7 @@ least [] = zero
 least (k ∷ []) = k
 least (k ∷ m ∷ ks) = min k (least (m ∷ ks))
 
--- 01 "longest repeat: length"
+-- 01 "longest repeat: length"; 02 (ii) "the largest length in use"
 unfoldable pub longestLength : (ℕ → ℕ) → Word → ℕ
 longestLength σ s = greatest (map length (palindromes σ s))
 

@@ -2,19 +2,14 @@
 -- Assumes nothing.
 use Prim.Native.Nat.{ℕ}
 use mathlib.Core.Path.{_≡_, refl}
-use mathlib.Core.Bool.{true, _&&_, and-assoc, and-comm, and-true}
+use mathlib.Core.Bool.{true, _&&_, and-comm, and-true}
 use mathlib.Core.List.{[], _∷_, _++_}
 use Rattle.palindromes.specs.Word.{Word, isLetter, allLetters}
 use Rattle.palindromes.specs.Place.{Stands}
 use Rattle.palindromes.specs.End.{End, atLeft, atRight, added, removed, letterAt}
 use Rattle.palindromes.proofs.Tests.{both-true}
 use Rattle.palindromes.proofs.Words.{added-removed}
-
--- two words joined are of letters exactly if both are
-pub letters-append : (u v : Word) → allLetters (u ++ v) ≡ (allLetters u && allLetters v)
-unfolding allLetters
-letters-append [] v = refl
-letters-append (x ∷ u) v = cc (letters-append u v, and-assoc (isLetter x) (allLetters u) (allLetters v))
+use Rattle.palindromes.proofs.Letters.{letters-append}
 
 -- a piece of a word of letters
 pub letters-piece : {w s : Word} → Stands w s → allLetters s ≡ true → allLetters w ≡ true
