@@ -58,6 +58,9 @@ uint64_t mirror_turn_inverted(uint8_t *store, size_t length);
 uint64_t mirror_length(const uint8_t *store, size_t length);
 uint64_t mirror_count(const uint8_t *store, size_t length);
 uint64_t mirror_longest(const uint8_t *store, size_t length);
+/* The length of the longest repeat, read from the store once that is tested: 0 for an empty record and for one without a
+ * repeat, and else what mirror_longest answers as its length. */
+uint64_t mirror_longest_length(const uint8_t *store, size_t length);
 uint64_t mirror_longest_left(const uint8_t *store, size_t length);
 uint64_t mirror_longest_right(const uint8_t *store, size_t length);
 uint64_t mirror_letter(const uint8_t *store, size_t length, uint64_t place);

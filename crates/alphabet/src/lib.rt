@@ -12,16 +12,16 @@ fn is_letter(c: u8) -> bool
     }
 }
 
-// Whether every byte of a piece is.
+// Whether every byte of a piece is. All of them are looked at, whatever the first ones are: with no way out of the loop the
+// compiler takes many bytes at once.
 pub fn all_letters(piece: &[u8]) -> bool
     ensures { λ r. ⌜ r ≡ allLetters (now (piece .entry)) ⌝ }
 {
+    let mut all = true;
     let mut i = 0;
     while i < piece.len() {
-        if !is_letter(piece[i]) {
-            return false;
-        }
+        all = all & is_letter(piece[i]);
         i += 1;
     }
-    true
+    all
 }

@@ -1,7 +1,6 @@
 -- A store that passes every test is good: the rows met are the rows in use, so the table covers the letters, and no edge of it leads anywhere else.
--- Rests on `covers-shows` of eertree; that a good store passes every test is in `Parts` of audit_fixed, `Order` of audit_order, `Letter` of audit_tour and `Rows` of audit_rows.
-use Prim.Native.Nat.{ℕ, _+_, _-_, _≤_, _<_}
-use native.Mathlib.Omega.{arith}
+-- Rests on `covers-shows` of eertree and on `rank-is` of audit_order; that a good store passes every test is in `Parts` of audit_fixed, `Letter` of audit_tour, `Lengths` of audit_lengths and `Rows` of audit_rows.
+use Prim.Native.Nat.{ℕ}
 use mathlib.Core.Path.{_≡_, _∙_, subst, fun-ext}
 use mathlib.Core.Bool.{Bool, true}
 use Rattle.palindromes.specs.Word.{Word, allLetters}
@@ -10,16 +9,19 @@ use Rattle.palindromes.specs.Node.{spelt, around}
 use Rattle.palindromes.proofs.Lists.{same-test}
 use Rattle.eertree.specs.Covers.{NodeOf, Covers, EdgesEnd, withUsed}
 use Rattle.eertree.proofs.Covers.{covers-shows}
-use Rattle.store.specs.Layout.{capacityIn, edgeIn, usedIn, lettersIn}
-use Rattle.store.specs.Good.{ruleOf, tableIn, nodeIn, EndIs, RankIs, Good}
+use Rattle.store.specs.Layout.{edgeIn, usedIn, lettersIn}
+use Rattle.store.specs.Good.{ruleOf, tableIn, nodeIn, EndIs, Good}
 use Rattle.store.proofs.Sizes.{used-below}
 use Rattle.audit_fixed.specs.Parts.{HeaderRight, FreePlaces, RootsRight}
 use Rattle.audit_order.specs.Order.{OrderRight}
+use Rattle.audit_order.proofs.Ranks.{rank-is}
+use Rattle.audit_lengths.specs.Lengths.{LengthsRight}
+use Rattle.audit_lengths.proofs.Lengths.{right-counts, right-longest}
 use Rattle.audit_tour.specs.Tour.{metIn, Toured}
 use Rattle.audit_rows.specs.Rows.{EdgeRight, nowhere, there, RowsRight, EndsRight}
 use Rattle.audit_tour.specs.declared.Tour.{Tour}
 
-module _ {b marks : Word} {t : Tour} (a : Toured b marks (lettersIn b) t) (rows : RowsRight b marks) where
+module _ {b marks carried : Word} {t : Tour} (a : Toured b marks carried (lettersIn b) t) (rows : RowsRight b marks) where
   -- the rows met are the rows in use
   met-used : (r : ℕ) → metIn marks r ≡ usedIn b r
   met-used r = same-test (metIn marks r) (usedIn b r) (a .used r) (λ u. rows r (used-below b r u) .met u)
@@ -43,23 +45,20 @@ module _ {b marks : Word} {t : Tour} (a : Toured b marks (lettersIn b) t) (rows 
   table-end h atRight = record { used = rw (h .right) (a .used (t .row) (a .row-met)); holds = rw (h .right) (a .row-holds) }
 
   -- all parts together are a good store
-  pub passed-good : HeaderRight b → allLetters (lettersIn b) ≡ true → FreePlaces b → RootsRight b → OrderRight b → EndsRight b t → Good b
-  passed-good h letters places roots order ends =
+  pub passed-good : HeaderRight b → allLetters (lettersIn b) ≡ true → FreePlaces b → RootsRight b → OrderRight b → EndsRight b t → LengthsRight b carried → Good b
+  passed-good h letters places roots order ends lengths =
       record {
         sized = h .sized;
         reading = h .reading;
         letters = letters;
         table = covers-shows table-covers table-ends;
         count-is = ends .count ∙ a .met-is;
+        length-counts = right-counts (h .sized) (a .lengths) lengths;
+        longest-is = right-longest (h .sized) (a .lengths) lengths;
         ends = table-end ends;
-        order = λ i l. order i l .order;
-        rank = ranks;
+        order = order;
+        rank = rank-is order;
         free-rows = λ r f l u i. rows r l .free u f i;
         root-letters = (roots .imaginary .outer, roots .empty .outer);
         free-places = places;
       }
-    where
-      ranks : (r : ℕ) → 2 ≤ r → r < capacityIn b + 2 → RankIs b r
-      ranks r l k =
-          let e : r - 2 + 2 ≡ r = omega arith in
-          subst (RankIs b) e (order (r - 2) (omega arith) .rank)

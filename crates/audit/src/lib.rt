@@ -28,10 +28,14 @@ pub fn is_good(b: &[u8]) -> bool
         return false;
     }
     let mut marks = [0u8; 1026];
-    let Visit::Next(tour) = audit_tour::replay(b, &mut marks) else {
+    let mut carried = [0u16; 1026];
+    let Visit::Next(tour) = audit_tour::replay(b, &mut marks, &mut carried) else {
         return false;
     };
     if !audit_rows::ends_right(b, tour) {
+        return false;
+    }
+    if !audit_lengths::lengths_right(b, &carried) {
         return false;
     }
     audit_rows::rows_right(b, &marks)

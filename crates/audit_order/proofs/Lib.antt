@@ -1,2 +1,2 @@
--- laws of the order of the rows
-pub mod Order
+-- the ranks, from the order that is tested
+pub mod Ranks

@@ -44,7 +44,7 @@ module _ (b marks : Word) (r : ℕ) where
 
 -- ---- in a good store
 
-module _ {b marks : Word} {t : Tour} (g : Good b) (a : Toured b marks (lettersIn b) t) where
+module _ {b marks carried : Word} {t : Tour} (g : Good b) (a : Toured b marks carried (lettersIn b) t) where
   -- every row in use was met
   pub good-met : (r : ℕ) → usedIn b r ≡ true → metIn marks r ≡ true
   good-met r u = by (nodeIn b r) refl

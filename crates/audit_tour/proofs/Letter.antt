@@ -35,6 +35,7 @@ use Rattle.eertree.specs.Covers.{NodeOf, Covers, withUsed}
 use Rattle.eertree.proofs.Covers.{around-not-empty}
 use Rattle.eertree.proofs.Rows.{reachOf, reach-length, imaginary-row}
 use Rattle.eertree.proofs.Nodes.{root-zero, root-one, node-from-step, node-from}
+use Rattle.eertree.proofs.Grow.{same-snoc, one-more-snoc}
 use Rattle.eertree.proofs.Replay.{Fits, step-there, read-none, read-old, read-fresh, read-new}
 use Rattle.store.specs.Layout.{cell, capacityIn, countIn, readingIn, lengthIn, linkIn, innerIn, outerIn, edgeIn, rankIn, usedIn, lettersIn}
 use Rattle.store.specs.Good.{ruleOf, tableIn, nodeIn, Good}
@@ -46,10 +47,12 @@ use Rattle.walk.specs.declared.Walked.{Walked}
 use Rattle.walk.specs.declared.Walked.the-variants.{At, Nothing}
 use Rattle.walk.proofs.Found.{stored-reach, chain, meets-longest, meets-link}
 use Rattle.walk.proofs.Stores.{rows-fit}
-use Rattle.transitions.proofs.Rows.{covers, used-root, used-is, used-rank, length-row}
+use Rattle.transitions.proofs.Rows.{covers, used-root, used-is, used-rank, row-fits, length-row}
 use Rattle.transitions.proofs.Start.{Roots, roots-cover}
 use Rattle.audit_edge.specs.Edge.{PointsBack, Walkable, LinkFound, alone, within, NewRow, right, not-longer, not-used, not-linked}
 use Rattle.audit_edge.proofs.Edge.{good-names}
+use Rattle.audit_lengths.specs.Lengths.{LengthsOf, Countable, Counted}
+use Rattle.audit_lengths.proofs.Lengths.{lengths-empty, lengths-same, lengths-more, count-small}
 use Rattle.audit_tour.specs.Tour.{Ready, readIn, metIn, Blank, leftAfter, Toured, Reading, Grows, Visited}
 use Rattle.audit_tour.specs.declared.Tour.{Tour}
 use Rattle.audit_tour.specs.declared.Visit.{Visit}
@@ -112,7 +115,7 @@ node-one b = root-one (ruleOf b) (innerIn b) (outerIn b) (capacityIn b + 2)
 abbrev bare : Word → Word → Table
 bare b marks = record { used = metIn marks; length = lengthIn b; link = linkIn b; inner = innerIn b; outer = outerIn b; edge = λ r c. 0 }
 
-module _ {b marks : Word} (z : Ready b) (n : Blank marks) where
+module _ {b marks carried : Word} (z : Ready b) (n : Blank marks) (y : Blank carried) where
   -- both roots lead to the imaginary string
   root-link : (r : ℕ) → r < 2 → linkIn b r ≡ 0
   root-link zero l = z .roots .imaginary .link
@@ -156,7 +159,7 @@ module _ {b marks : Word} (z : Ready b) (n : Blank marks) where
       }
 
   -- before the first letter the tour stands at the empty string
-  pub tour-start : Toured b marks [] (record { row = 1; left = 1; met = 0 })
+  pub tour-start : Toured b marks carried [] (record { row = 1; left = 1; met = 0 })
   unfolding longestAt
   tour-start =
       record {
@@ -168,17 +171,18 @@ module _ {b marks : Word} (z : Ready b) (n : Blank marks) where
         left-met = met-root marks 1 (omega arith);
         left-holds = node-one b ∙ ap spelt (sym (longest-empty (ruleOf b) atLeft));
         met-is = sym (count-empty (ruleOf b));
+        lengths = lengths-empty (ruleOf b) (y .long) (y .zero);
       }
 
 -- ---- what the code goes by
 
 -- how a tour stands, by the answer that it gave
-pub led : (b marks p : Word) (r s : Visit) → Visited b marks p r → r ≡ s → Visited b marks p s
-led b marks p r s v e = subst (Visited b marks p) e v
+pub led : (b marks carried p : Word) (r s : Visit) → Visited b marks carried p r → r ≡ s → Visited b marks carried p s
+led b marks carried p r s v e = subst (Visited b marks carried p) e v
 
 -- ---- a letter
 
-module _ {b marks : Word} {k : ℕ} {t : Tour} (s : Reading b marks k t) where
+module _ {b marks carried : Word} {k : ℕ} {t : Tour} (s : Reading b marks carried k t) where
   letters-more : k < length (lettersIn b)
   letters-more = omega (arith, letters-length (s .ready .sized))
 
@@ -213,7 +217,7 @@ module _ {b marks : Word} {k : ℕ} {t : Tour} (s : Reading b marks k t) where
           let g : Found (ruleOf b) (metIn marks) (nodeIn b) (readIn b k) d (At u) = subst (Found (ruleOf b) (metIn marks) (nodeIn b) (readIn b k) d) f found in
           record { next = e; met = g .0; longest = g .1 }
 
-      pub tour-none : o ≡ Nothing → Toured b marks (readIn b (k + 1)) (record { row = 1; left = t .left; met = t .met })
+      pub tour-none : o ≡ Nothing → Toured b marks carried (readIn b (k + 1)) (record { row = 1; left = t .left; met = t .met })
       tour-none f =
           let g : longestSuffix (ruleOf b) (readIn b k ++ (d ∷ [])) ≡ [] = subst (Found (ruleOf b) (metIn marks) (nodeIn b) (readIn b k) d) f found in
           rw read-next
@@ -226,16 +230,17 @@ module _ {b marks : Word} {k : ℕ} {t : Tour} (s : Reading b marks k t) where
             left-met = s .toured .left-met;
             left-holds = s .toured .left-holds ∙ ap spelt (sym (prefix-kept (ruleOf b) (readIn b k) d (rule-inverse (readingIn b)) (omega (arith, ap length g))));
             met-is = s .toured .met-is ∙ sym (count-old (ruleOf b) (readIn b k) d (rw g (stands-empty (readIn b k))));
+            lengths = lengths-same (same-snoc (ruleOf b) (readIn b k) d (rw g (stands-empty (readIn b k)))) (s .toured .lengths);
           })
 
     -- the tour comes to row q, which holds the longest palindrome that then ends the letters
-    module _ {marks′ : Word} (long : length marks′ ≡ 1026) (used : (r : ℕ) → metIn marks′ r ≡ true → usedIn b r ≡ true)
-        (cov : Covers (ruleOf b) (readIn b k ++ (d ∷ [])) (withUsed (metIn marks′) (tableIn b)) (nodeIn b)) where
+    module _ {marks′ carried′ : Word} (long : length marks′ ≡ 1026) (used : (r : ℕ) → metIn marks′ r ≡ true → usedIn b r ≡ true)
+        (cov : Covers (ruleOf b) (readIn b k ++ (d ∷ [])) (withUsed (metIn marks′) (tableIn b)) (nodeIn b)) (lengths : LengthsOf (ruleOf b) (readIn b k ++ (d ∷ [])) carried′) where
       arrived : (q left m : ℕ) → metIn marks′ q ≡ true → nodeIn b q ≡ spelt (longestSuffix (ruleOf b) (readIn b k ++ (d ∷ []))) → metIn marks′ (t .left) ≡ true
-          → left ≡ leftAfter b k q (t .left) → m ≡ count (ruleOf b) (readIn b k ++ (d ∷ [])) → Toured b marks′ (readIn b (k + 1)) (record { row = q; left = left; met = m })
+          → left ≡ leftAfter b k q (t .left) → m ≡ count (ruleOf b) (readIn b k ++ (d ∷ [])) → Toured b marks′ carried′ (readIn b (k + 1)) (record { row = q; left = left; met = m })
       arrived q left m u f l i c =
           let v = begins (leb (cell b q 0) (k + 1)) refl in
-          rw read-next (record { long = long; used = used; covers = cov; row-met = u; row-holds = f; left-met = rw i (v .0); left-holds = rw i (v .1); met-is = c })
+          rw read-next (record { long = long; used = used; covers = cov; row-met = u; row-holds = f; left-met = rw i (v .0); left-holds = rw i (v .1); met-is = c; lengths = lengths })
         where
           reach : cell b q 0 ≡ suc (length (longestSuffix (ruleOf b) (readIn b k ++ (d ∷ []))))
           reach = stored-reach b cov q u ∙ ap reachOf f
@@ -254,11 +259,11 @@ module _ {b marks : Word} {k : ℕ} {t : Tour} (s : Reading b marks k t) where
 
     -- to a row met before
     pub tour-old : {q left : ℕ} → PointsBack b u d q → getD marks q 0 ≡ 1 → left ≡ leftAfter b k q (t .left)
-        → Toured b marks (readIn b (k + 1)) (record { row = q; left = left; met = t .met })
+        → Toured b marks carried (readIn b (k + 1)) (record { row = q; left = left; met = t .met })
     tour-old {q} {left} r f l =
         let i = met-marked marks q f in
         let o = read-old (s .toured .covers) u d (w .met) (w .longest) q i (r .low) (r .inner) (r .outer) in
-        arrived (w .next) (s .toured .long) (s .toured .used) (o .0) q left (t .met) i (o .1) (s .toured .left-met) l (s .toured .met-is ∙ sym (count-old (ruleOf b) (readIn b k) d (o .2)))
+        arrived (w .next) (s .toured .long) (s .toured .used) (o .0) (lengths-same (same-snoc (ruleOf b) (readIn b k) d (o .2)) (s .toured .lengths)) q left (t .met) i (o .1) (s .toured .left-met) l (s .toured .met-is ∙ sym (count-old (ruleOf b) (readIn b k) d (o .2)))
 
     -- the word of row u ends the letters read, if it has one
     word-ends : (v : Word) → nodeIn b u ≡ spelt v → Suffix v (readIn b k)
@@ -338,20 +343,40 @@ module _ {b marks : Word} {k : ℕ} {t : Tour} (s : Reading b marks k t) where
           (s .toured .used i)
           (either-true (eqb i q) (metIn marks i) (sym (met-set marks q mark-inside i) ∙ m))
 
+      -- a row that is longer than u by two has the length of the longest palindrome, plus one
+      new-reach : cell b q 0 ≡ cell b u 0 + 2 → cell b q 0 ≡ length (longestSuffix (ruleOf b) (readIn b k ++ (d ∷ []))) + 1
+      new-reach c = omega (arith, stored-reach b (s .toured .covers) u (w .met), around-reach (ruleOf b) d (nodeIn b u), ap length (w .longest))
+
+      -- which can be counted
+      pub new-countable : NewRow b k d u q true → Countable b carried q
+      new-countable (right c y x) =
+          let n = new-reach c in
+          let v = longestSuffix (ruleOf b) (readIn b k ++ (d ∷ [])) in
+          let fits : length v ≤ 1024 = omega (arith, suffix-length (longest-suffix (ruleOf b) (readIn b k ++ (d ∷ [])) .suffix), length-append (readIn b k) (d ∷ []), read-length, s .more, s .ready .sized .letters-fit, s .ready .sized .at-most) in
+          record {
+            inside = row-fits (s .ready .sized) q (r .high);
+            long = s .toured .lengths .long;
+            some = omega arith;
+            most = omega arith;
+            few = rw n (count-small (length v) (s .toured .lengths) (omega arith) fits (omega (arith, read-length, s .more, s .ready .sized .letters-fit, s .ready .sized .at-most)));
+          }
+
       -- to a row that is met for the first time
-      pub tour-new : {left : ℕ} → q ≡ edgeIn b u d → (getD marks q 0 ≡ 1 → ⊥) → NewRow b k d u q true → left ≡ leftAfter b k q (t .left)
-          → Toured b (set marks q 1) (readIn b (k + 1)) (record { row = q; left = left; met = t .met + 1 })
-      tour-new {left} f n (right c y x) l =
+      pub tour-new : {left : ℕ} {carried′ : Word} → q ≡ edgeIn b u d → (getD marks q 0 ≡ 1 → ⊥) → NewRow b k d u q true → left ≡ leftAfter b k q (t .left) → length carried′ ≡ length carried → Counted carried (cell b q 0) carried′
+          → Toured b (set marks q 1) carried′ (readIn b (k + 1)) (record { row = q; left = left; met = t .met + 1 })
+      tour-new {left} f n (right c y x) l same counted =
           let old = met-unmarked marks q (r .low) n in
           let also = met-set marks q mark-inside in
+          let fresh = read-fresh (s .toured .covers) u d (w .met) (w .longest) (letter-next (w .next)) (subst (λ (j : ℕ). metIn marks j ≡ false) f old) in
           arrived (w .next) (length-set marks q 1 ∙ s .toured .long) (used-more y)
           (read-new (s .toured .covers) u d (w .met) (w .longest) (letter-next (w .next)) q (sym f) old (new-fits c x) (metIn (set marks q 1)) also)
+          (lengths-more (one-more-snoc (ruleOf b) (readIn b k) d fresh) (s .toured .lengths) (new-reach c) same counted)
           q left (t .met + 1)
           (also q ∙ left-is (eqb q q) (metIn marks q) (eq-eqb q q refl))
           (new-word ∙ ap spelt (sym (w .longest)))
           (also (t .left) ∙ right-is (eqb (t .left) q) (metIn marks (t .left)) (s .toured .left-met))
           l
-          (omega (arith, s .toured .met-is, count-new (ruleOf b) (readIn b k) d (read-fresh (s .toured .covers) u d (w .met) (w .longest) (letter-next (w .next)) (subst (λ (j : ℕ). metIn marks j ≡ false) f old))))
+          (omega (arith, s .toured .met-is, count-new (ruleOf b) (readIn b k) d fresh))
 
     -- ---- in a good store
 

@@ -12,6 +12,7 @@ use Rattle.eertree.specs.Covers.{Covers, withUsed}
 use Rattle.store.specs.Layout.{cell, sizeIn, usedIn, lettersIn}
 use Rattle.store.specs.Good.{ruleOf, tableIn, nodeIn, Sized, Good}
 use Rattle.audit_fixed.specs.Parts.{RootsRight}
+use Rattle.audit_lengths.specs.Lengths.{LengthsOf}
 use Rattle.audit_tour.specs.declared.Tour.{Tour}
 use Rattle.audit_tour.specs.declared.Visit.{Visit}
 use Rattle.audit_tour.specs.declared.Visit.the-variants.{Next, Broken}
@@ -30,13 +31,14 @@ readIn b k = take k (lettersIn b)
 unfoldable pub metIn : Word → ℕ → Bool
 metIn marks r = ltb r 2 || eqb (getD marks r 0) 1
 
--- no row is marked
+-- no row is marked, and no length counted
 pub record Blank (marks : Word) : Type 0 where
   pub long : length marks ≡ 1026
   pub zero : (r : ℕ) → getD marks r 0 ≡ 0
 
--- once the letters p are read: the rows met are in use and cover p, `row` holds the longest palindrome that ends p, `left` the longest that begins p, and `met` is how many were met
-pub record Toured (b marks p : Word) (t : Tour) : Type 0 where
+-- once the letters p are read: the rows met are in use and cover p, `row` holds the longest palindrome that ends p, `left` the longest that begins p, and `met` is how many were met; `carried` has
+-- their lengths
+pub record Toured (b marks carried p : Word) (t : Tour) : Type 0 where
   pub long : length marks ≡ 1026
   pub used : (r : ℕ) → metIn marks r ≡ true → usedIn b r ≡ true
   pub covers : Covers (ruleOf b) p (withUsed (metIn marks) (tableIn b)) (nodeIn b)
@@ -45,16 +47,17 @@ pub record Toured (b marks p : Word) (t : Tour) : Type 0 where
   pub left-met : metIn marks (t .left) ≡ true
   pub left-holds : nodeIn b (t .left) ≡ spelt (longestPrefix (ruleOf b) p)
   pub met-is : t .met ≡ count (ruleOf b) p
+  pub lengths : LengthsOf (ruleOf b) p carried
 
 -- the row of the longest palindrome that begins k + 1 letters, if row q's is the longest that ends them: row q itself if that is all of them
 abbrev pub leftAfter : Word → (k q left : ℕ) → ℕ
 leftAfter b k q left = cond (leb (cell b q 0) (k + 1)) left q
 
 -- k letters of a store that is ready are read, and one more follows
-pub record Reading (b marks : Word) (k : ℕ) (t : Tour) : Type 0 where
+pub record Reading (b marks carried : Word) (k : ℕ) (t : Tour) : Type 0 where
   pub ready : Ready b
   pub more : k < sizeIn b
-  pub toured : Toured b marks (readIn b k) t
+  pub toured : Toured b marks carried (readIn b k) t
 
 -- the letter that follows is d, and around the met row u it makes the longest palindrome that then ends the letters
 pub record Grows (b marks : Word) (k d u : ℕ) : Type 0 where
@@ -63,6 +66,6 @@ pub record Grows (b marks : Word) (k d u : ℕ) : Type 0 where
   pub longest : longestSuffix (ruleOf b) (readIn b k ++ (d ∷ [])) ≡ around (ruleOf b) d (nodeIn b u)
 
 -- how a tour stands once the letters p are read: it goes on, or the store is not good
-abbrev pub Visited : Word → Word → Word → Visit → Type 0
-Visited b marks p (Next t) = Toured b marks p t
-Visited b marks p Broken = Good b → ⊥
+abbrev pub Visited : Word → (marks carried p : Word) → Visit → Type 0
+Visited b marks carried p (Next t) = Toured b marks carried p t
+Visited b marks carried p Broken = Good b → ⊥

@@ -1,6 +1,6 @@
 // The tour of the letters from left to right: from the row of the longest palindrome that ends the
 // letters so far, each letter leads to the row of the next one. A row is tested when it is first
-// met, and marked.
+// met, and marked, and its length is counted.
 ghost use mathlib.Core.Path.{_≡_};
 ghost use Prim.Native.Nat.{_+_, _*_, _<_, _≤_};
 ghost use lib.ListN.{length};
@@ -10,6 +10,7 @@ ghost use Rattle.walk.specs.Frame.{Frames, partnerIn};
 ghost use Rattle.audit_tour.specs.Tour.{Ready, Blank, readIn, leftAfter, Reading, Grows, Visited};
 use audit_edge::new_row_right;
 use audit_edge::points_back;
+use audit_lengths::count_row;
 use partners::partner_in;
 use partners::table;
 use store::lengths;
@@ -54,6 +55,7 @@ pub fn enter(
     b: &[u8],
     f: Frame,
     marks: &mut [u8],
+    carried: &mut [u16],
     k: usize,
     tour: Tour,
     u: usize,
@@ -61,9 +63,9 @@ pub fn enter(
     want: u8,
 ) -> Visit
     requires { ⌜ Frames (now b) f × (want ≡ partnerIn f d) ⌝ }
-    requires { ⌜ Reading (now b) (now marks) k tour ⌝ }
+    requires { ⌜ Reading (now b) (now marks) (now carried) k tour ⌝ }
     requires { ⌜ Grows (now b) (now marks) k d u ⌝ }
-    ensures { λ r. ⌜ Visited (now (b .entry)) (now (marks .exit)) (readIn (now (b .entry)) (k + 1)) r ⌝ }
+    ensures { λ r. ⌜ Visited (now (b .entry)) (now (marks .exit)) (now (carried .exit)) (readIn (now (b .entry)) (k + 1)) r ⌝ }
 {
     let q = rows::edge_of(b, u, d);
     if !points_back(b, u, d, q) {
@@ -81,6 +83,7 @@ pub fn enter(
         return Visit::Broken;
     }
     marks[q] = 1;
+    count_row(b, carried, q);
     Visit::Next(Tour {
         row: q,
         left,
@@ -94,18 +97,19 @@ pub fn advance(
     f: Frame,
     partners: &[u8; 256],
     marks: &mut [u8],
+    carried: &mut [u16],
     k: usize,
     tour: Tour,
 ) -> Visit
     requires { ⌜ Frames (now b) f × PartnersIn (f .reading) (now partners) ⌝ }
-    requires { ⌜ Reading (now b) (now marks) k tour ⌝ }
-    ensures { λ r. ⌜ Visited (now (b .entry)) (now (marks .exit)) (readIn (now (b .entry)) (k + 1)) r ⌝ }
+    requires { ⌜ Reading (now b) (now marks) (now carried) k tour ⌝ }
+    ensures { λ r. ⌜ Visited (now (b .entry)) (now (marks .exit)) (now (carried .exit)) (readIn (now (b .entry)) (k + 1)) r ⌝ }
 {
     let d = seen(b, f, partners, Side::Right, k);
     let want = partner_in(partners, d);
     let found = walk::walk(b, f, Side::Right, k, tour.row, d, want);
     match found {
-        Walked::At(u) => enter(b, f, marks, k, tour, u, d, want),
+        Walked::At(u) => enter(b, f, marks, carried, k, tour, u, d, want),
         Walked::Nothing => Visit::Next(Tour {
             row: Row::EMPTY,
             left: tour.left,
@@ -114,11 +118,11 @@ pub fn advance(
     }
 }
 
-// All letters, with no row marked at first.
-pub fn replay(b: &[u8], marks: &mut [u8]) -> Visit
+// All letters, with no row marked and no length counted at first.
+pub fn replay(b: &[u8], marks: &mut [u8], carried: &mut [u16]) -> Visit
     requires { ⌜ Ready (now b) ⌝ }
-    requires { ⌜ Blank (now marks) ⌝ }
-    ensures { λ r. ⌜ Visited (now (b .entry)) (now (marks .exit)) (lettersIn (now (b .entry))) r ⌝ }
+    requires { ⌜ Blank (now marks) × Blank (now carried) ⌝ }
+    ensures { λ r. ⌜ Visited (now (b .entry)) (now (marks .exit)) (now (carried .exit)) (lettersIn (now (b .entry))) r ⌝ }
 {
     let f = frame_of(b);
     let n = f.n;
@@ -130,7 +134,7 @@ pub fn replay(b: &[u8], marks: &mut [u8]) -> Visit
     };
     let mut k = 0;
     while k < n {
-        let Visit::Next(next) = advance(b, f, &partners, marks, k, tour) else {
+        let Visit::Next(next) = advance(b, f, &partners, marks, carried, k, tour) else {
             return Visit::Broken;
         };
         tour = next;

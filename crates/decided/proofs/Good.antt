@@ -1,6 +1,6 @@
 -- Every store is good or not: each part of `Good` is decided, and the rows and places that it speaks of lie below the capacity and two.
 -- Rests on the decisions of `Decide`, and on `Shows` for the table.
-use Prim.Native.Nat.{ℕ, _+_, _<_}
+use Prim.Native.Nat.{ℕ, suc, _+_, _<_}
 use native.Mathlib.Omega.{arith}
 use native.Mathlib.Decide.{ℕ-discrete, decLe, decLt}
 use mathlib.Core.Path.{_≡_}
@@ -10,12 +10,12 @@ use lib.Dec.{ltb}
 use lib.ListN.{length, getD}
 use borrow.Author.Tests.{ltb-true}
 use Rattle.palindromes.specs.Word.{Word, allLetters}
-use Rattle.palindromes.specs.Record.{count}
+use Rattle.palindromes.specs.Record.{count, countOfLength, longestLength}
 use Rattle.palindromes.specs.End.{End, longestAt}
 use Rattle.palindromes.specs.Node.{spelt}
 use Rattle.palindromes.specs.Refusal.{storeSize}
 use Rattle.palindromes.proofs.Tests.{both-true}
-use Rattle.store.specs.Layout.{cell, capacityIn, sizeIn, countIn, readingIn, endRow, outerIn, orderIn, rankIn, usedIn, lettersAt, lettersIn}
+use Rattle.store.specs.Layout.{cell, capacityIn, sizeIn, countIn, readingIn, endRow, outerIn, orderIn, rankIn, usedIn, lengthCountIn, longestLengthIn, lettersAt, lettersIn}
 use Rattle.store.specs.Good.{ruleOf, tableIn, nodeIn, Sized, OrderIs, RankIs, EndIs, Good}
 use Rattle.decided.proofs.Decide.{from-either, need, implied, all-below, both-ends, Node-discrete}
 use Rattle.decided.proofs.Shows.{shows-decided}
@@ -65,6 +65,11 @@ module _ (b : Word) where
       need (Bool-discrete (allLetters (lettersIn b)) true) (λ g. g .letters) λ letters.
       need (shows-decided (ruleOf b) (lettersIn b) (tableIn b) (nodeIn b) (capacityIn b + 2) (used-below b)) (λ g. g .table) λ table.
       need (ℕ-discrete (countIn b) (count (ruleOf b) (lettersIn b))) (λ g. g .count-is) λ count-is.
+      need
+      (all-below (suc (capacityIn b)) (λ k. implied (decLe 1 k) (ℕ-discrete (lengthCountIn b k) (countOfLength (ruleOf b) k (lettersIn b)))))
+      (λ g k h l. g .length-counts k l (omega arith))
+      λ length-counts.
+      need (ℕ-discrete (longestLengthIn b) (longestLength (ruleOf b) (lettersIn b))) (λ g. g .longest-is) λ longest-is.
       need (both-ends end-decided) (λ g. g .ends) λ ends.
       need (all-below (capacityIn b) order-decided) (λ g. g .order) λ order.
       need (all-below (capacityIn b + 2) (λ r. implied (decLe 2 r) (rank-decided r))) (λ g r h l. g .rank r l h) λ rank.
@@ -84,6 +89,8 @@ module _ (b : Word) where
         letters = letters;
         table = table;
         count-is = count-is;
+        length-counts = λ k l h. length-counts k (omega arith) l;
+        longest-is = longest-is;
         ends = ends;
         order = order;
         rank = λ r l h. rank r h l;

@@ -3,7 +3,7 @@
 ghost use Rattle.palindromes.specs.Reading.{asPlain, asInverted};
 ghost use Rattle.palindromes.specs.End.{atLeft, atRight};
 ghost use mathlib.Core.List.{[]};
-ghost use Rattle.palindromes.specs.Refusal.{add, remove, turn, theLength, theCount, theLongest, theLongestAt, theLetter, theRow, spell, find, list};
+ghost use Rattle.palindromes.specs.Refusal.{add, remove, turn, theLength, theCount, theLongest, theLongestLength, theLongestAt, theLetter, theRow, spell, find, list};
 ghost use Rattle.fasta_call.specs.Answer.{FastaPromise};
 ghost use Rattle.outcome.specs.Promise.{lending, nothing, Promise, OpeningPromise, FreeRow, Asked};
 
@@ -87,6 +87,14 @@ pub extern "C" fn mirror_count(store: &[u8]) -> u64
     ensures { λ r. ⌜ Asked theCount (now (store .entry)) nothing r nothing ⌝ }
 {
     record_calls::count(store)
+}
+
+// The longest repeat's length, 0 where there is none.
+#[no_mangle]
+pub extern "C" fn mirror_longest_length(store: &[u8]) -> u64
+    ensures { λ r. ⌜ Asked theLongestLength (now (store .entry)) nothing r nothing ⌝ }
+{
+    record_calls::longest_length(store)
 }
 
 // The longest repeat's length and leftmost place.

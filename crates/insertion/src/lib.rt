@@ -42,6 +42,7 @@ pub fn insert(b: &mut [u8], side: Side, c: u8, row: Row) -> usize
     let opposite = ends::across(b, side, row.length, f.n + 1, r);
     joining::join(b, f.base, f.n, side, c);
     hang(b, r, row, count);
+    length_counts::gain(b, row.length);
     ends::settle(b, side, f.n + 1, r, opposite);
     r
 }

@@ -13,10 +13,12 @@ use Rattle.palindromes.specs.End.{End, atLeft, atRight, longestAt}
 use Rattle.palindromes.specs.Node.{spelt}
 use Rattle.palindromes.proofs.Longest.{longest-empty}
 use Rattle.palindromes.proofs.Palindromes.{palindromes-empty, count-empty}
+use Rattle.palindromes.proofs.Answers.{longest-length-empty}
+use Rattle.palindromes.proofs.Lengths.{length-count-empty}
 use Rattle.eertree.proofs.Covers.{covers-shows}
 use Rattle.eertree.proofs.Nodes.{root-zero, root-one}
 use Rattle.eertree.proofs.Rows.{reachOf, link-zero, link-one, inner-zero, inner-one}
-use Rattle.store.specs.Layout.{cell, setCell, capacityIn, sizeIn, countIn, endRow, endCell, lengthIn, linkIn, innerIn, outerIn, edgeCell, edgeIn, orderIn, rankIn, usedIn, lettersAt, lettersIn}
+use Rattle.store.specs.Layout.{cell, setCell, capacityIn, sizeIn, countIn, endRow, endCell, lengthIn, linkIn, innerIn, outerIn, edgeCell, edgeIn, orderIn, rankIn, usedIn, lengthCountIn, longestLengthIn, lettersAt, lettersIn}
 use Rattle.store.specs.Good.{ruleOf, tableIn, nodeIn, Sized, OrderIs, RankIs, EndIs, Good}
 use Rattle.store.specs.Writes.{write, writes}
 use Rattle.store.proofs.Edges.{edge-high}
@@ -129,7 +131,7 @@ module _ {b : Word} (g : Good b) (empty : lettersIn b ≡ []) (v : ℕ) (below :
 
   -- the empty record, in either reading
   pub empty-either : Good (setCell b 0 11 v)
-  unfolding allLetters outerIn writes sizeIn
+  unfolding allLetters outerIn lengthCountIn longestLengthIn writes sizeIn
   empty-either =
       record {
         sized = sized;
@@ -137,6 +139,8 @@ module _ {b : Word} (g : Good b) (empty : lettersIn b ≡ []) (v : ℕ) (below :
         letters = rw no-letters refl;
         table = rw no-letters (covers-shows (roots-cover (ruleOf now) roots) (roots-end (ruleOf now) roots));
         count-is = cc (no-count, no-letters, count-empty (ruleOf now));
+        length-counts = λ k l h. cc (stays (k + 1) 10 (omega arith), g .length-counts k l (omega (arith, same-capacity g v small)), empty, no-letters, length-count-empty (ruleOf b) k, length-count-empty (ruleOf now) k);
+        longest-is = cc (stays 1 10 (omega arith), g .longest-is, empty, no-letters, longest-length-empty (ruleOf b), longest-length-empty (ruleOf now));
         ends = ends;
         order = order;
         rank = rank;

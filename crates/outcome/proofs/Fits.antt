@@ -11,7 +11,7 @@ use Rattle.palindromes.specs.Reading.{Reading}
 use Rattle.palindromes.specs.Record.{palindromes, count, least, longestPlace}
 use Rattle.palindromes.specs.End.{End, atLeft, atRight, letterAt}
 use Rattle.palindromes.specs.Node.{Node, imaginary, spelt, lengthOf, spellingOf}
-use Rattle.palindromes.specs.Refusal.{Question, theLength, theCount, theLongest, theLongestAt, theLetter, theRow, spell, find, list, Call, opening, add, remove, turn, ask, refusal}
+use Rattle.palindromes.specs.Refusal.{Question, theLength, theCount, theLongest, theLongestLength, theLongestAt, theLetter, theRow, spell, find, list, Call, opening, add, remove, turn, ask, refusal}
 use Rattle.palindromes.proofs.Tests.{both-true}
 use Rattle.palindromes.proofs.Order.{longest-length-fits, longest-place-is}
 use Rattle.palindromes.proofs.Palindromes.{count-length}
@@ -92,6 +92,7 @@ module _ {b : Word} (g : Good b) where
   answer-fits theCount l z = fits _ (omega arith) (omega (arith, count-length (ruleOf b) (lettersIn b), few)) (omega arith)
   answer-fits theLongest l z =
       fits _ (omega arith) (omega (arith, longest-length-fits (ruleOf b) (lettersIn b), few)) (omega (arith, longest-place-fits (ruleOf b) (lettersIn b), few))
+  answer-fits theLongestLength l z = fits _ (omega arith) (omega (arith, longest-length-fits (ruleOf b) (lettersIn b), few)) (omega arith)
   answer-fits (theLongestAt e) l z = fits _ (row-of-small g _) (omega arith) (omega arith)
   answer-fits (theLetter i) l z = fits _ (omega arith) (letter-small (lettersIn b) i (g .letters)) (omega arith)
   answer-fits (theRow r) l z = fits _ (row-of-small g _) (length-small r (row-used b l r z)) (row-of-small g _)

@@ -5,3 +5,4 @@ pub mod Promises
 pub mod Packing
 pub mod Fits
 pub mod Told
+pub mod LongestLength

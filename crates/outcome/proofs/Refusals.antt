@@ -12,7 +12,7 @@ use Rattle.palindromes.specs.Reading.{Reading}
 use Rattle.palindromes.specs.End.{End}
 use Rattle.palindromes.specs.Node.{spellingOf}
 use Rattle.palindromes.specs.Bed.{isIdentifier, listing}
-use Rattle.palindromes.specs.Refusal.{Question, theLength, theCount, theLongest, theLongestAt, theLetter, theRow, spell, find, list, View, questionFaults, Call, opening, add, remove, turn, ask, fault, firstFault, isFree, spellingLength, storeSize, faults, refusal}
+use Rattle.palindromes.specs.Refusal.{Question, theLength, theCount, theLongest, theLongestLength, theLongestAt, theLetter, theRow, spell, find, list, View, questionFaults, Call, opening, add, remove, turn, ask, fault, firstFault, isFree, spellingLength, storeSize, faults, refusal}
 use Rattle.palindromes.proofs.Tests.{both-true, false-not-true, non-empty-is}
 use Rattle.store.specs.Layout.{capacityIn, usedIn, lettersIn}
 use Rattle.store.specs.Good.{ruleOf, nodeIn}
@@ -55,6 +55,7 @@ unfolding questionFaults
 question-numbers σ v theLength = tt
 question-numbers σ v theCount = tt
 question-numbers σ v theLongest = (row 6 _ refl, tt)
+question-numbers σ v theLongestLength = tt
 question-numbers σ v (theLongestAt e) = (row 6 _ refl, tt)
 question-numbers σ v (theLetter i) = (row 7 _ refl, tt)
 question-numbers σ v (theRow r) = (row 7 _ refl, tt)
@@ -128,6 +129,10 @@ module _ (b : Word) (l : Lent) where
   pub count-accepted : refusal (ruleOf b) (viewIn b l) (ask theCount) ≡ 0
   unfolding refusal faults questionFaults viewIn firstFault fault
   count-accepted = refl
+
+  pub longest-length-accepted : refusal (ruleOf b) (viewIn b l) (ask theLongestLength) ≡ 0
+  unfolding refusal faults questionFaults viewIn firstFault fault
+  longest-length-accepted = refl
 
   pub longest-none : lettersIn b ≡ [] → refusal (ruleOf b) (viewIn b l) (ask theLongest) ≡ 6
   unfolding refusal faults questionFaults viewIn firstFault fault isEmpty

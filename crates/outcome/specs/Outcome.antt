@@ -12,7 +12,7 @@ use Rattle.palindromes.specs.Record.{palindromes, count, longestLength, longest
 use Rattle.palindromes.specs.End.{letterAt}
 use Rattle.palindromes.specs.Node.{spelt, lengthOf, linkOf, innerOf, spellingOf}
 use Rattle.palindromes.specs.Bed.{listing}
-use Rattle.palindromes.specs.Refusal.{Question, theLength, theCount, theLongest, theLongestAt, theLetter, theRow, spell, find, list, Call, opening, add, remove, turn, ask, View, refusal}
+use Rattle.palindromes.specs.Refusal.{Question, theLength, theCount, theLongest, theLongestLength, theLongestAt, theLetter, theRow, spell, find, list, Call, opening, add, remove, turn, ask, View, refusal}
 use Rattle.store.specs.Layout.{capacityIn, usedIn, lettersIn}
 use Rattle.store.specs.Good.{ruleOf, nodeIn, Good}
 use Rattle.transitions.specs.Rows.{rowOf}
@@ -64,6 +64,7 @@ unfoldable pub answerTo : Question → Word → Answer
 answerTo theLength b = answer false 0 (length (lettersIn b)) 0
 answerTo theCount b = answer false 0 (count (ruleOf b) (lettersIn b)) 0
 answerTo theLongest b = answer false 0 (longestLength (ruleOf b) (lettersIn b)) (longestPlace (ruleOf b) (lettersIn b))
+answerTo theLongestLength b = answer false 0 (longestLength (ruleOf b) (lettersIn b)) 0
 answerTo (theLongestAt e) b = answer (standsOnce (longestBefore e b) (lettersIn b)) (rowOf b (spelt (longestBefore e b))) 0 0
 answerTo (theLetter i) b = answer false 0 (getD (lettersIn b) i 0) 0
 answerTo (theRow r) b = answer false (rowOf b (linkOf (ruleOf b) (nodeIn b r))) (twosComplement (lengthOf (nodeIn b r))) (rowOf b (innerOf (nodeIn b r)))
@@ -76,6 +77,7 @@ unfoldable pub lentAfter : Question → Word → Lent → Lent
 lentAfter theLength b l = l
 lentAfter theCount b l = l
 lentAfter theLongest b l = l
+lentAfter theLongestLength b l = l
 lentAfter (theLongestAt e) b l = l
 lentAfter (theLetter i) b l = l
 lentAfter (theRow r) b l = l

@@ -14,7 +14,7 @@ use Rattle.palindromes.specs.Bed.{isIdentifier, listing}
 
 -- a question with its arguments: it changes no byte of the store
 pub data Question : Type 0 where
-  theLength theCount theLongest : Question
+  theLength theCount theLongest theLongestLength : Question
   theLongestAt : End → Question
   theLetter : (place : ℕ) → Question
   theRow : (row : ℕ) → Question
@@ -71,6 +71,7 @@ unfoldable pub questionFaults : (ℕ → ℕ) → View → Question → List ℕ
 questionFaults σ v theLength = []
 questionFaults σ v theCount = []
 questionFaults σ v theLongest = fault 6 (isEmpty (v .letters)) ∷ []
+questionFaults σ v theLongestLength = []
 questionFaults σ v (theLongestAt e) = fault 6 (isEmpty (v .letters)) ∷ []
 questionFaults σ v (theLetter i) = fault 7 (leb (length (v .letters)) i) ∷ []
 questionFaults σ v (theRow r) = fault 7 (isFree (v .row r)) ∷ []

@@ -1,6 +1,6 @@
 -- What the questions about the record promise, on plain values. Rests on `Refusals`, `Promises` and `Fits` of the outcomes.
 use Prim.Native.Nat.{ℕ, _-_, _≤_, _<_}
-use mathlib.Core.Path.{_≡_, refl, sym}
+use mathlib.Core.Path.{_≡_, refl, sym, ap, _∙_}
 use mathlib.Core.Bool.{Bool, true, false}
 use native.Mathlib.Omega.{arith}
 use lib.Dec.{leb}
@@ -8,14 +8,14 @@ use lib.ListN.{length, getD}
 use borrow.Author.Tests.{leb-true, leb-false}
 use Rattle.palindromes.specs.Word.{Word}
 use Rattle.palindromes.specs.Record.{count}
-use Rattle.palindromes.specs.Refusal.{ask, theLength, theCount, theLetter}
-use Rattle.store.specs.Layout.{lettersIn}
+use Rattle.palindromes.specs.Refusal.{ask, theLength, theCount, theLongestLength, theLetter}
+use Rattle.store.specs.Layout.{longestLengthIn, lettersIn}
 use Rattle.store.specs.Good.{ruleOf, Good}
 use Rattle.outcome.specs.Reply.{packed, accepted}
 use Rattle.outcome.specs.Outcome.{acceptedOutcome, answerTo, lentAfter, changed}
 use Rattle.outcome.specs.Promise.{nothing, Promise}
 use Rattle.outcome.specs.Verdict.{Verdict, judged}
-use Rattle.outcome.proofs.Refusals.{length-accepted, count-accepted, letter-outside, letter-accepted}
+use Rattle.outcome.proofs.Refusals.{length-accepted, count-accepted, longest-length-accepted, letter-outside, letter-accepted}
 use Rattle.outcome.proofs.Promises.{Answerable, carried}
 use Rattle.outcome.proofs.Fits.{few, answer-fits}
 
@@ -34,6 +34,13 @@ module _ (b : Word) (g : Good b) where
   pub count-answered : {r : ℕ} → r ≡ packed (accepted false 0 (count (ruleOf b) (lettersIn b)) 0) → Promise (ask theCount) b nothing r b nothing
   unfolding acceptedOutcome answerTo lentAfter changed
   count-answered e = carried (ask theCount) b nothing g (count-accepted b nothing) (record { reply = e; store = refl; lent = refl })
+
+  -- what the store carries is the length of the longest
+  pub longest-length-answered : {r : ℕ} → r ≡ packed (accepted false 0 (longestLengthIn b) 0) → Promise (ask theLongestLength) b nothing r b nothing
+  unfolding acceptedOutcome answerTo lentAfter changed
+  longest-length-answered e =
+      carried (ask theLongestLength) b nothing g (longest-length-accepted b nothing)
+      (record { reply = e ∙ ap (λ (n : ℕ). packed (accepted false 0 n 0)) (g .longest-is); store = refl; lent = refl })
 
   pub outside : (i : ℕ) → length (lettersIn b) ≤ i → Verdict (ask (theLetter i)) b nothing 7
   outside i h = judged g (sym (letter-outside b nothing i h))

@@ -1,11 +1,13 @@
-// The host's questions about the record: its length, how many repeats stand, and the letter at a place.
+// The host's questions about the record: its length, how many repeats stand, how long the longest is, and the
+// letter at a place.
 // Each tests its store and its argument, asks nothing of the caller, and changes no byte.
-ghost use Rattle.palindromes.specs.Refusal.{ask, theLength, theCount, theLetter};
+ghost use Rattle.palindromes.specs.Refusal.{ask, theLength, theCount, theLongestLength, theLetter};
 ghost use Rattle.outcome.specs.Promise.{nothing, Asked};
 ghost use Rattle.outcome.specs.Verdict.{Verdict};
 use outcome::pack;
 use outcome::refuse;
 use questions::record;
+use store::header;
 
 // How many letters stand.
 pub fn length(store: &[u8]) -> u64
@@ -25,6 +27,16 @@ pub fn count(store: &[u8]) -> u64
         return refuse(3);
     }
     pack(false, 0, record::count(store), 0)
+}
+
+// The length of the longest repeat, 0 where there is none, from the number that the store carries.
+pub fn longest_length(store: &[u8]) -> u64
+    ensures { λ r. ⌜ Asked theLongestLength (now (store .entry)) nothing r nothing ⌝ }
+{
+    if !audit::is_good(store) {
+        return refuse(3);
+    }
+    pack(false, 0, header::longest(store), 0)
 }
 
 // The refusal number of asking a letter, 0 where it can be answered.

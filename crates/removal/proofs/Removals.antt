@@ -1,7 +1,7 @@
 -- What a removal finds in a good store, and the bytes that its writes leave. The letters that are left are those read before the last one, so the row of the longest palindrome that ends them is the row
--- of the end without the letter (`last-row`), and the palindrome at the end goes exactly if its row was not come to (`goes`). A row that goes is no root, and what is read and written of it lies
--- within the store, before and after the letter has left (`leaf`, `leaf-kept`). Last, the writes of the code are those that the definitions name (`removed-gone`, `removed-kept`).
--- Rests on `Towards` of walk, on the laws of a good store (`Rows` of transitions) and on the frame laws of the store.
+-- of the end without the letter (`last-row`), and the palindrome at the end goes exactly if its row was not come to (`goes`). What is read and written of a row that goes lies within the store, before
+-- and after the letter has left (`leaf`, `leaf-kept`). Last, the writes of the code are those that the definitions name (`removed-gone`, `removed-kept`).
+-- Rests on `Towards` of walk, on the laws of a good store (`Rows` of transitions), on `gone-high` of `RemovedBytes` and on the frame laws of the store.
 use Prim.Native.Nat.{ℕ, zero, suc, _+_, _-_, _≤_}
 use native.Mathlib.Omega.{arith}
 use mathlib.Core.Path.{_≡_, refl, sym, ap, _∙_, subst₂}
@@ -11,30 +11,30 @@ use lib.Dec.{eqb}
 use lib.ListN.{length, take, drop}
 use lib.IntN.{pos}
 use lib.Seq.{sets, length-sets}
-use borrow.Author.Tests.{not-true}
 use Rattle.palindromes.specs.Word.{Word}
 use Rattle.palindromes.specs.Place.{stands}
 use Rattle.palindromes.specs.Record.{longestSuffix}
 use Rattle.palindromes.specs.End.{End, other, removed, letterAt, longestAt}
 use Rattle.palindromes.specs.Node.{spelt, lengthOf}
-use Rattle.palindromes.proofs.Tests.{false-not-true}
-use Rattle.palindromes.proofs.Places.{stands-is, stands-empty}
+use Rattle.palindromes.proofs.Words.{stands-length}
 use Rattle.palindromes.proofs.NewIn.{longest-at}
 use Rattle.palindromes.proofs.Readings.{rule-inverse}
 use Rattle.palindromes.proofs.Letters.{letter-byte}
-use Rattle.eertree.proofs.Rows.{row-high}
 use Rattle.store.specs.Layout.{capacityIn, sizeIn, countIn, readingIn, endRow, lengthIn, linkIn, innerIn, outerIn, orderIn, rankIn, usedIn, lettersAt, lettersIn}
 use Rattle.store.specs.Good.{ruleOf, nodeIn, Good}
-use Rattle.store.specs.Writes.{towards, writes}
+use Rattle.store.specs.Writes.{towards, writes, carriedWrites}
 use Rattle.store.proofs.Writes.{cell-sets, writes-append}
 use Rattle.store.proofs.Sizes.{letters-length, used-below}
 use Rattle.walk.specs.Replay.{lettersTowards, Holds, Surveyed}
 use Rattle.walk.proofs.Towards.{towards-removed, longest-towards, stands-towards-test}
 use Rattle.walk.proofs.Stores.{header-fits}
-use Rattle.transitions.specs.Removal.{longestBefore, takesOut, dropWrites, leaveWrites, removalWrites, afterRemoval}
+use Rattle.transitions.specs.Removal.{longestBefore, takesOut, dropWrites, lossWrites, leaveWrites, removalWrites, afterRemoval}
+use Rattle.transitions.proofs.RemovedBytes.{end-holds, gone-high}
 use Rattle.transitions.proofs.Rows.{covers, used-rank, used-fits, row-fits, row-of, count-most, outer-letter}
 use Rattle.ends.specs.Steps.{endWrites}
 use Rattle.freeing.specs.Steps.{Leaves}
+use Rattle.length_counts.specs.Steps.{CarriedFor}
+use Rattle.length_counts.specs.declared.Carried.{Carried}
 use Rattle.removal.specs.Steps.{lastRow, oppositeRow, Parts}
 
 module _ {b : Word} (g : Good b) (e : End) where
@@ -60,12 +60,7 @@ module _ {b : Word} (g : Good b) (e : End) where
       sym (row-of g last (spelt (longestAt (ruleOf b) e (removed e (lettersIn b)))) (h .used)
       (h .holds ∙ ap spelt (ap (longestSuffix (ruleOf b)) (sym rest-read) ∙ sym (longest-towards (ruleOf b) (rule-inverse (readingIn b)) e (removed e (lettersIn b))))))
 
-  -- the end's row holds the longest palindrome there
-  end-holds : nodeIn b (endRow b e) ≡ spelt (longestBefore e b)
-  unfolding longestBefore
-  end-holds = g .ends e .holds
-
-  -- which goes exactly if the reading did not come to its row
+  -- the longest palindrome there goes exactly if the reading did not come to its row
   pub goes : (met : Bool) → ((w : Word) → nodeIn b (endRow b e) ≡ spelt w → met ≡ stands w (take (sizeIn b - 1) (lettersTowards b e))) → takesOut e b ≡ not met
   unfolding takesOut longestBefore
   goes met tells =
@@ -75,10 +70,21 @@ module _ {b : Word} (g : Good b) (e : End) where
       ∙ ap (stands v) (sym rest-read)
       ∙ stands-towards-test (ruleOf b) inv e v (removed e (lettersIn b)) (longest-at (ruleOf b) inv e (lettersIn b) .0)))
 
-  -- its length
+  -- the length of that palindrome
   pub end-length : lengthIn b (endRow b e) ≡ pos (length (longestBefore e b))
   unfolding lengthOf
-  end-length = g .table .length-is (endRow b e) (g .ends e .used) ∙ ap lengthOf end-holds
+  end-length = g .table .length-is (endRow b e) (g .ends e .used) ∙ ap lengthOf (end-holds e g)
+
+  -- which the store has room for
+  pub end-room : length (longestBefore e b) ≤ capacityIn b
+  unfolding longestBefore
+  end-room =
+      omega (
+        arith,
+        stands-length (longest-at (ruleOf b) (rule-inverse (readingIn b)) e (lettersIn b) .1),
+        letters-length (g .sized),
+        g .sized .letters-fit,
+      )
 
   -- so all that the code reads is what the definitions name
   pub parted : {base n row last link letter x : ℕ} {met : Bool} → base ≡ lettersAt (capacityIn b) → n ≡ sizeIn b → row ≡ endRow b e
@@ -90,16 +96,9 @@ module _ {b : Word} (g : Good b) (e : End) where
       let h : Surveyed b (lettersTowards b e) (sizeIn b - 1) (endRow b e) last met = subst₂ (λ (n r : ℕ). Surveyed b (lettersTowards b e) (n - 1) r last met) j k s in
       record { letter-is = cc; row-is = k; met-is = goes met (h .tells); last-is = last-row last (h .ends); opposite-is = cc }
 
-  -- ---- the row that goes
+-- ---- the row that goes
 
-  -- a row that goes is no root
-  pub gone-high : takesOut e b ≡ true → 2 ≤ endRow b e
-  unfolding takesOut
-  gone-high t =
-      row-high (covers g) (endRow b e) end-holds λ n.
-      false-not-true (not-true (stands (longestBefore e b) (removed e (lettersIn b))) t) (rw n (stands-is [] (removed e (lettersIn b)) (stands-empty (removed e (lettersIn b)))))
-
--- what is read and written of it lies within the store
+-- what is read and written of a row that is no root lies within the store
 pub leaf : {b : Word} → Good b → (q : ℕ) → usedIn b q ≡ true → 2 ≤ q → Leaves b q
 leaf {b} g q u l =
     let r = used-rank b q l u in
@@ -173,17 +172,26 @@ module _ {b : Word} (g : Good b) (e : End) where
       → p ≡ sets b base (removed e (take n (drop base b)) ++ (0 ∷ [])) → Leaves p q
   leaf-left n {base} i k gone hp =
       subst₂ Leaves (sym (hp ∙ ap (λ (at : ℕ). sets b at (removed e (take n (drop base b)) ++ (0 ∷ []))) i)) (sym k)
-      (leaf-kept g (endRow b e) (g .ends e .used) (gone-high g e gone) (removed e (take n (drop base b)) ++ (0 ∷ [])))
+      (leaf-kept g (endRow b e) (g .ends e .used) (gone-high e g gone) (removed e (take n (drop base b)) ++ (0 ∷ [])))
 
   -- with the palindrome
-  pub removed-gone : {p z r : Word} {base n q last x : ℕ} → base ≡ lettersAt (capacityIn b) → n ≡ sizeIn b → q ≡ endRow b e → takesOut e b ≡ true
-      → last ≡ lastRow b e → x ≡ oppositeRow b e
-      → p ≡ sets b base (removed e (take n (drop base b)) ++ (0 ∷ [])) → r ≡ writes p (dropWrites p q) → z ≡ writes r (endWrites e (n - 1) last x) → z ≡ afterRemoval e b
-  unfolding afterRemoval removalWrites leaveWrites lettersIn writes
-  removed-gone i j k gone m y hp hr hz =
+  pub removed-gone : {p r v z : Word} {base n q last x : ℕ} {carried : Carried} → base ≡ lettersAt (capacityIn b) → n ≡ sizeIn b → q ≡ endRow b e → takesOut e b ≡ true
+      → last ≡ lastRow b e → x ≡ oppositeRow b e → CarriedFor (ruleOf b) (removed e (lettersIn b)) (length (longestBefore e b)) carried
+      → p ≡ sets b base (removed e (take n (drop base b)) ++ (0 ∷ [])) → r ≡ writes p (dropWrites p q) → v ≡ writes r (carriedWrites (carried .length) (carried .count) (carried .longest))
+      → z ≡ writes v (endWrites e (n - 1) last x) → z ≡ afterRemoval e b
+  unfolding afterRemoval removalWrites lossWrites leaveWrites lettersIn writes
+  removed-gone i j k gone m y c hp hr hv hz =
       let w = removed e (lettersIn b) ++ (0 ∷ []) in
-      let d = drop-kept g (endRow b e) (g .ends e .used) (gone-high g e gone) w in
-      rw gone (cc (d, writes-append (sets b (lettersAt (capacityIn b)) w) (dropWrites b (endRow b e)) (leaveWrites e b)))
+      let d = drop-kept g (endRow b e) (g .ends e .used) (gone-high e g gone) w in
+      rw gone
+      (cc (
+        d,
+        c .length-is,
+        c .count-is,
+        c .longest-is,
+        writes-append (sets b (lettersAt (capacityIn b)) w) (dropWrites b (endRow b e) ++ lossWrites e b) (leaveWrites e b),
+        writes-append (sets b (lettersAt (capacityIn b)) w) (dropWrites b (endRow b e)) (lossWrites e b),
+      ))
 
   -- without it
   pub removed-kept : {p z : Word} {base n last x : ℕ} → base ≡ lettersAt (capacityIn b) → n ≡ sizeIn b → takesOut e b ≡ false

@@ -53,8 +53,10 @@ fn take_out(b: &mut [u8], side: Side, p: Parting)
     ensures { λ _. ⌜ now (b .exit) ≡ afterRemoval (endOf side) (now (b .entry)) ⌝ }
 {
     let f = frame::frame_of(b);
+    let lengths = length_counts::without(b, p.row);
     joining::leave(b, f.base, f.n, side);
     freeing::free(b, p.row);
+    length_counts::put(b, lengths);
     ends::settle(b, side, f.n - 1, p.last, p.opposite);
 }
 

@@ -92,6 +92,17 @@ cell-writes b (w ∷ ws) h r f inside =
     (fitting-kept b (setCell b (w .row) (w .field) (w .value)) ws (sym (length-set-cell b (w .row) (w .field) (w .value))) (h .3)) r f inside
     ∙ ap (look ws r f) (cell-set b (w .row) (w .field) (w .value) (h .0) (h .1) (h .2) r f inside)
 
+-- every write of a run is to another cell
+abbrev pub Apart : List Write → (r f : ℕ) → Type 0
+Apart [] r f = Unit {0}
+Apart (w ∷ ws) r f = (cellAt (w .row) (w .field) ≢ cellAt r f) × Apart ws r f
+
+-- so the cell stays
+pub cell-apart : (b : Word) (ws : List Write) (r f : ℕ) → Apart ws r f → cell (writes b ws) r f ≡ cell b r f
+unfolding writes
+cell-apart b [] r f h = refl
+cell-apart b (w ∷ ws) r f h = cell-apart (setCell b (w .row) (w .field) (w .value)) ws r f (h .1) ∙ kept b (w .row) (w .field) (w .value) r f (h .0)
+
 -- writes keep the store's length
 pub length-writes : (b : Word) (ws : List Write) → length (writes b ws) ≡ length b
 unfolding writes

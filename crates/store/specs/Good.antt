@@ -5,12 +5,12 @@ use mathlib.Core.Bool.{true, false}
 use lib.ListN.{length, getD}
 use Rattle.palindromes.specs.Word.{Word, allLetters}
 use Rattle.palindromes.specs.Reading.{ruleIn}
-use Rattle.palindromes.specs.Record.{count}
+use Rattle.palindromes.specs.Record.{count, countOfLength, longestLength}
 use Rattle.palindromes.specs.End.{End, longestAt}
 use Rattle.palindromes.specs.Node.{Node, spelt}
 use Rattle.palindromes.specs.Eertree.{Table, Shows, nodeFrom}
 use Rattle.palindromes.specs.Refusal.{storeSize}
-use Rattle.store.specs.Layout.{cell, capacityIn, sizeIn, countIn, readingIn, endRow, lengthIn, linkIn, innerIn, outerIn, edgeIn, orderIn, rankIn, usedIn, lettersAt, lettersIn}
+use Rattle.store.specs.Layout.{cell, capacityIn, sizeIn, countIn, readingIn, longestLengthIn, endRow, lengthIn, linkIn, innerIn, outerIn, edgeIn, orderIn, rankIn, usedIn, lengthCountIn, lettersAt, lettersIn}
 
 -- the partner rule that the store's record is read by
 abbrev pub ruleOf : Word → ℕ → ℕ
@@ -55,6 +55,8 @@ pub record Good (b : Word) : Type 0 where
   pub letters : allLetters (lettersIn b) ≡ true
   pub table : Shows (ruleOf b) (lettersIn b) (tableIn b) (nodeIn b)
   pub count-is : countIn b ≡ count (ruleOf b) (lettersIn b)
+  pub length-counts : (k : ℕ) → 1 ≤ k → k ≤ capacityIn b → lengthCountIn b k ≡ countOfLength (ruleOf b) k (lettersIn b)
+  pub longest-is : longestLengthIn b ≡ longestLength (ruleOf b) (lettersIn b)
   pub ends : (e : End) → EndIs b e
   pub order : (i : ℕ) → i < capacityIn b → OrderIs b i
   pub rank : (r : ℕ) → 2 ≤ r → r < capacityIn b + 2 → RankIs b r

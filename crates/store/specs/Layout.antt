@@ -37,6 +37,10 @@ countIn b = cell b 0 10
 unfoldable pub readingIn : Word → ℕ
 readingIn b = cell b 0 11
 
+-- the largest length of a repeat, 0 where there is none
+unfoldable pub longestLengthIn : Word → ℕ
+longestLengthIn b = cell b 1 10
+
 -- the cell of row 1 that holds the row of the longest repeat at an end
 abbrev pub endCell : End → ℕ
 endCell atLeft = 8
@@ -78,6 +82,12 @@ rankIn b r = cell b r 9
 -- the row is a root, or one of the first `count` rows of the order
 unfoldable pub usedIn : Word → ℕ → Bool
 usedIn b r = ltb r 2 || (ltb r (capacityIn b + 2) && ltb (rankIn b r) (countIn b))
+
+-- ---- how many repeats there are of each length
+
+-- those of length k, from 1 on, are counted beside row k + 1
+unfoldable pub lengthCountIn : Word → ℕ → ℕ
+lengthCountIn b k = cell b (k + 1) 10
 
 -- ---- the letters
 

@@ -1,5 +1,5 @@
 -- DEFINITIONS. The bytes after a run of cell writes, and the letters seen from an end. Nothing here is proved.
-use Prim.Native.Nat.{ℕ}
+use Prim.Native.Nat.{ℕ, _+_}
 use mathlib.Core.List.{List, [], _∷_}
 use lib.IntN.{ℤ, pos, negsuc}
 use Prim.Native.Nat.{zero, suc}
@@ -30,6 +30,10 @@ stored (negsuc n) = zero
 -- the four cells of a row that are not edges
 abbrev pub rowWrites : ℕ → ℤ → ℕ → ℕ → ℕ → List Write
 rowWrites r length link inner outer = write r 0 (stored length) ∷ write r 1 link ∷ write r 2 inner ∷ write r 3 outer ∷ []
+
+-- the carried numbers: how many repeats have length k, and the largest length
+abbrev pub carriedWrites : (k count longest : ℕ) → List Write
+carriedWrites k count longest = write (k + 1) 10 count ∷ write 1 10 longest ∷ []
 
 -- the letters as they are read towards an end: a record worked from the left is its mirror worked from the right
 unfoldable pub towards : (ℕ → ℕ) → End → Word → Word

@@ -1,10 +1,10 @@
-// The header of a store: six numbers in the last cells of rows 0 and 1.
+// The header of a store: seven numbers in the last cells of rows 0 and 1.
 use super::cells;
 use super::letters::Side;
 ghost use mathlib.Core.Path.{_≡_};
 ghost use Prim.Native.Nat.{_<_, _≤_};
 ghost use lib.ListN.{length};
-ghost use Rattle.store.specs.Layout.{capacityIn, sizeIn, countIn, readingIn, endRow, endCell, setCell};
+ghost use Rattle.store.specs.Layout.{capacityIn, sizeIn, countIn, readingIn, longestLengthIn, endRow, endCell, setCell};
 ghost use Rattle.store.specs.Side.{endOf};
 
 // How many letters the record has room for.
@@ -37,6 +37,14 @@ pub fn reading(b: &[u8]) -> usize
     ensures { λ v. ⌜ (v ≡ readingIn (now (b .entry))) × (v < 65536) ⌝ }
 {
     cells::get(b, 0, 11)
+}
+
+// The largest length of a palindrome, 0 where there is none.
+pub fn longest(b: &[u8]) -> usize
+    requires { ⌜ 48 ≤ length (now b) ⌝ }
+    ensures { λ v. ⌜ (v ≡ longestLengthIn (now (b .entry))) × (v < 65536) ⌝ }
+{
+    cells::get(b, 1, 10)
 }
 
 // The cell of row 1 that holds the row of the longest palindrome at a side.
@@ -87,6 +95,14 @@ pub fn set_reading(b: &mut [u8], v: usize)
     ensures { λ _. ⌜ now (b .exit) ≡ setCell (now (b .entry)) 0 11 v ⌝ }
 {
     cells::put(b, 0, 11, v);
+}
+
+// Puts the largest length of a palindrome.
+pub fn set_longest(b: &mut [u8], v: usize)
+    requires { ⌜ 48 ≤ length (now b) ⌝ }
+    ensures { λ _. ⌜ now (b .exit) ≡ setCell (now (b .entry)) 1 10 v ⌝ }
+{
+    cells::put(b, 1, 10, v);
 }
 
 // Puts the row of the longest palindrome at a side.

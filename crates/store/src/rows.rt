@@ -5,7 +5,7 @@ ghost use mathlib.Core.Path.{_≡_};
 ghost use Prim.Native.Nat.{_+_, _*_, _<_, _≤_};
 ghost use lib.ListN.{length};
 ghost use lib.IntN.{negsuc};
-ghost use Rattle.store.specs.Layout.{lengthIn, linkIn, innerIn, outerIn, edgeIn, edgeCell, orderIn, rankIn, setCell};
+ghost use Rattle.store.specs.Layout.{lengthIn, linkIn, innerIn, outerIn, edgeIn, edgeCell, orderIn, rankIn, lengthCountIn, setCell};
 ghost use Rattle.store.specs.Lengths.{Stored};
 ghost use Rattle.store.specs.Writes.{writes, stored, rowWrites};
 
@@ -89,6 +89,14 @@ pub fn order_of(b: &[u8], i: usize) -> usize
     cells::get(b, i + 2, 8)
 }
 
+// How many palindromes have length k, which is not 0: beside row k + 1.
+pub fn count_of_length(b: &[u8], k: usize) -> usize
+    requires { ⌜ 24 * (k + 1) + 24 ≤ length (now b) ⌝ }
+    ensures { λ v. ⌜ (v ≡ lengthCountIn (now (b .entry)) k) × (v < 65536) ⌝ }
+{
+    cells::get(b, k + 1, 10)
+}
+
 // The cell of a row that holds its edge by a letter.
 pub fn edge_cell(c: u8) -> usize
     ensures { λ f. ⌜ (f ≡ edgeCell c) × (4 ≤ f) × (f < 8) ⌝ }
@@ -158,4 +166,12 @@ pub fn put_rank(b: &mut [u8], r: usize, i: usize)
     ensures { λ _. ⌜ now (b .exit) ≡ setCell (now (b .entry)) r 9 i ⌝ }
 {
     cells::put(b, r, 9, i);
+}
+
+// Puts how many palindromes have length k.
+pub fn put_count_of_length(b: &mut [u8], k: usize, v: usize)
+    requires { ⌜ 24 * (k + 1) + 24 ≤ length (now b) ⌝ }
+    ensures { λ _. ⌜ now (b .exit) ≡ setCell (now (b .entry)) (k + 1) 10 v ⌝ }
+{
+    cells::put(b, k + 1, 10, v);
 }

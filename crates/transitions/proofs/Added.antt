@@ -2,32 +2,34 @@
 -- everything else as it was. `Added` says all that a caller reads off the new bytes, and `addition` proves it.
 -- Rests on `AddedBytes` for the cells and the letters, on `AddedTable` for the rows, on `count-added` for the count and on `across-added` for the end across.
 use Prim.Native.Nat.{ℕ, _+_, _≤_, _<_}
+use native.Mathlib.Decide.{ℕ-discrete}
 use native.Mathlib.Omega.{arith}
 use mathlib.Core.Path.{_≡_, refl, sym, ap, _∙_}
 use mathlib.Core.Bool.{Bool, true, false, cond, not, _&&_, _||_}
-use mathlib.Core.Logic.{_⊎_}
+use mathlib.Core.Logic.{_⊎_, ⊎-elim}
 use lib.Dec.{eqb}
 use lib.ListN.{length, getD, drop}
 use Rattle.palindromes.specs.Word.{Word, isLetter}
 use Rattle.palindromes.specs.Palindrome.{SelfInverse, isSymmetric}
 use Rattle.palindromes.specs.Place.{stands}
-use Rattle.palindromes.specs.Record.{count}
+use Rattle.palindromes.specs.Record.{count, countOfLength, longestLength}
 use Rattle.palindromes.specs.End.{End, atLeft, atRight, other, added, longestAt}
 use Rattle.palindromes.specs.Node.{spelt}
-use Rattle.palindromes.proofs.Tests.{not-true-false, false-not-true}
+use Rattle.palindromes.proofs.Tests.{not-true-false, false-not-true, decided}
 use Rattle.palindromes.proofs.NewIn.{count-added}
 use Rattle.palindromes.proofs.Across.{whole-at, whole-test, across-added}
 use Rattle.palindromes.proofs.Readings.{rule-inverse}
-use Rattle.store.specs.Layout.{cell, capacityIn, sizeIn, countIn, readingIn, endRow, outerIn, orderIn, rankIn, usedIn, lettersAt, lettersIn}
+use Rattle.eertree.proofs.Lengths.{same-length-count, same-longest, other-length-count}
+use Rattle.store.specs.Layout.{cell, capacityIn, sizeIn, countIn, readingIn, endRow, outerIn, orderIn, rankIn, usedIn, lengthCountIn, longestLengthIn, lettersAt, lettersIn}
 use Rattle.store.specs.Good.{ruleOf, nodeIn, Sized, OrderIs, RankIs, EndIs, Good}
 use Rattle.transitions.specs.Rows.{rowOf, freeRow}
 use Rattle.transitions.specs.Opening.{usedBytes}
 use Rattle.transitions.specs.Addition.{longestAfter, bringsIn, rowAfter, afterAddition}
 use Rattle.transitions.proofs.Rows.{used-root}
 use Rattle.transitions.specs.Bytes.{Bytes}
-use Rattle.transitions.proofs.AddedWord.{Accepted, letters-after, length-after, longest-found, inner-found}
-use Rattle.transitions.proofs.AddedBytes.{capacity-after, reading-after, size-after, order-after, rank-after, spare-after, end-after, other-end-after, count-new, count-old, row-kept, letters-are, place-after, length-kept, rest-kept, bytes-kept}
-use Rattle.transitions.proofs.AddedTable.{used-kept, used-new, used-rows, used-after, outers-kept, rule-after, node-kept, node-new, table-after}
+use Rattle.transitions.proofs.AddedWord.{Accepted, letters-after, length-after, longest-found, one-more, inner-found}
+use Rattle.transitions.proofs.AddedBytes.{capacity-after, reading-after, size-after, order-after, rank-after, spare-after, end-after, other-end-after, count-new, length-count-new, longest-new, count-old, longest-old, length-count-kept, row-kept, letters-are, place-after, length-kept, rest-kept, bytes-kept}
+use Rattle.transitions.proofs.AddedTable.{used-kept, used-new, used-rows, used-after, outers-kept, same, rule-after, node-kept, node-new, table-after}
 
 -- what holds of an end and of the end across holds of both ends
 pub each-end : (P : End → Type 0) (e : End) → P e → P (other e) → (i : End) → P i
@@ -50,6 +52,21 @@ module _ {e : End} {c : ℕ} {b : Word} (a : Accepted e c b) where
       go : (t : Bool) → stands (longestAfter e c b) (lettersIn b) ≡ t → countIn (afterAddition e c b) ≡ count (ruleOf b) (added e c (lettersIn b))
       go true t = omega (arith, count-old a (ap not t), rw t at counted)
       go false t = count-new a (ap not t) ∙ sym (rw t at counted)
+
+  -- and those of each length
+  length-counts-after : (j : ℕ) → 1 ≤ j → j ≤ capacityIn b → lengthCountIn (afterAddition e c b) j ≡ countOfLength (ruleOf b) j (added e c (lettersIn b))
+  length-counts-after j l h = ⊎-elim (λ k. new k (ℕ-discrete (length (longestAfter e c b)) j)) old (decided (bringsIn e c b))
+    where
+      new : bringsIn e c b ≡ true → Dec (length (longestAfter e c b) ≡ j) → lengthCountIn (afterAddition e c b) j ≡ countOfLength (ruleOf b) j (added e c (lettersIn b))
+      new k (yes p) = rw (← p) (length-count-new a k)
+      new k (no n) = length-count-kept a j l h (λ t. n) ∙ a .good .length-counts j l h ∙ sym (other-length-count (one-more a k) j n)
+
+      old : bringsIn e c b ≡ false → lengthCountIn (afterAddition e c b) j ≡ countOfLength (ruleOf b) j (added e c (lettersIn b))
+      old k = length-count-kept a j l h (λ t. absurd (false-not-true k t)) ∙ a .good .length-counts j l h ∙ sym (same-length-count (ruleOf b) (same a k) j)
+
+  -- and has the length of the longest
+  longest-after-is : longestLengthIn (afterAddition e c b) ≡ longestLength (ruleOf b) (added e c (lettersIn b))
+  longest-after-is = ⊎-elim (longest-new a) (λ k. longest-old a k ∙ a .good .longest-is ∙ sym (same-longest (ruleOf b) (same a k))) (decided (bringsIn e c b))
 
   -- ---- the ends
 
@@ -151,6 +168,8 @@ module _ {e : End} {c : ℕ} {b : Word} (a : Accepted e c b) where
         letters = rw (letters-are a) (letters-after a);
         table = table-after a;
         count-is = rw (rule-after a, letters-are a) count-after;
+        length-counts = λ j l h. rw (rule-after a, letters-are a) (length-counts-after j l (rw (capacity-after a) at h));
+        longest-is = rw (rule-after a, letters-are a) longest-after-is;
         ends = each-end (EndIs (afterAddition e c b)) e end-here end-across;
         order = λ i l. order-right i (rw (capacity-after a) at l);
         rank = λ r l h. rank-right r l (rw (capacity-after a) at h);
@@ -175,7 +194,7 @@ pub record Added (e : End) (c : ℕ) (b : Word) : Type 0 where
   pub count-is : countIn (afterAddition e c b) ≡ count (ruleOf b) (added e c (lettersIn b))
   pub order : (i : ℕ) → i < capacityIn b → orderIn (afterAddition e c b) i ≡ orderIn b i
   pub rank : (r : ℕ) → 2 ≤ r → r < capacityIn b + 2 → rankIn (afterAddition e c b) r ≡ rankIn b r
-  pub spare : (r f : ℕ) → 1 ≤ r → r < capacityIn b + 2 → 10 ≤ f → f < 12 → cell (afterAddition e c b) r f ≡ cell b r f
+  pub spare : (r : ℕ) → r < capacityIn b + 2 → cell (afterAddition e c b) r 11 ≡ cell b r 11
   pub used-is : (r : ℕ) → usedIn (afterAddition e c b) r ≡ ((bringsIn e c b && eqb r (freeRow b)) || usedIn b r)
   pub old-row : (r : ℕ) → usedIn b r ≡ true → (usedIn (afterAddition e c b) r ≡ true) × (nodeIn (afterAddition e c b) r ≡ nodeIn b r)
   pub new-row : bringsIn e c b ≡ true → (usedIn (afterAddition e c b) (freeRow b) ≡ true) × (nodeIn (afterAddition e c b) (freeRow b) ≡ spelt (longestAfter e c b))

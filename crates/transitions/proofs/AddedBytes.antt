@@ -10,11 +10,15 @@ use lib.Dec.{eqb}
 use lib.ListN.{length, getD, take, drop}
 use lib.Seq.{sets, length-sets}
 use Rattle.palindromes.specs.Word.{Word}
+use Rattle.palindromes.specs.Record.{countOfLength, longestLength}
 use Rattle.palindromes.specs.End.{End, atLeft, atRight, other, added}
 use Rattle.palindromes.specs.Node.{spelt, linkOf}
 use Rattle.palindromes.specs.Refusal.{storeSize}
 use Rattle.palindromes.proofs.Letters.{letter-byte}
-use Rattle.store.specs.Layout.{cell, capacityIn, sizeIn, countIn, readingIn, endCell, endRow, edgeCell, linkIn, innerIn, outerIn, edgeIn, orderIn, rankIn, lettersAt, lettersIn}
+use Rattle.palindromes.proofs.Palindromes.{count-length}
+use Rattle.palindromes.proofs.Order.{longest-length-fits}
+use Rattle.palindromes.proofs.Lengths.{length-count-most}
+use Rattle.store.specs.Layout.{cell, capacityIn, sizeIn, countIn, readingIn, endCell, endRow, edgeCell, linkIn, innerIn, outerIn, edgeIn, orderIn, rankIn, lengthCountIn, longestLengthIn, lettersAt, lettersIn}
 use Rattle.store.specs.Good.{ruleOf, Sized}
 use Rattle.store.specs.Writes.{Write}
 use Rattle.store.proofs.Writes.{look, Fitting, RowsBelow, fitting-kept, cell-writes, length-writes, getD-writes, drop-writes, cell-sets}
@@ -23,11 +27,11 @@ use Rattle.store.proofs.Edges.{edge-low, edge-high}
 use Rattle.store.proofs.Sizes.{used-below}
 use Rattle.transitions.specs.Rows.{rowOf, freeRow}
 use Rattle.transitions.specs.Opening.{usedBytes}
-use Rattle.transitions.specs.Addition.{longestAfter, bringsIn, rowAfter, hangWrites, settleWrites, additionWrites, afterAddition}
+use Rattle.transitions.specs.Addition.{longestAfter, bringsIn, rowAfter, hangWrites, gainWrites, settleWrites, additionWrites, afterAddition}
 use Rattle.transitions.proofs.Rows.{row-fits, free-row, free-below, row-of-small, size-small, count-small, length-small, stored-length}
 use Rattle.transitions.specs.Bytes.{Bytes}
 use Rattle.transitions.proofs.AddedRuns.{Misses, Puts, look-misses, misses-after, look-puts, puts-after, bytes-sets, bytes-writes}
-use Rattle.transitions.proofs.AddedWord.{Accepted, innerRow, linkRow, lastLetter, letters-after, length-after, longest-fits, longest-found, inner-found, last-letter}
+use Rattle.transitions.proofs.AddedWord.{Accepted, innerRow, linkRow, lastLetter, letters-after, length-after, longest-fits, longest-found, inner-found, longer-than-none, last-letter}
 
 -- ---- the layout
 
@@ -50,7 +54,7 @@ end-cells atRight = omega arith
 
 -- with the row of a new palindrome, or without
 abbrev run : Bool → End → ℕ → Word → List Write
-run k e c b = cond k (hangWrites b (longestAfter e c b)) [] ++ settleWrites e b (longestAfter e c b) (rowAfter e c b)
+run k e c b = cond k (hangWrites b (longestAfter e c b) ++ gainWrites e c b) [] ++ settleWrites e b (longestAfter e c b) (rowAfter e c b)
 
 module _ {e : End} {c : ℕ} {b : Word} (a : Accepted e c b) where
   -- the row that the call's end gets is one of the table
@@ -76,20 +80,27 @@ module _ {e : End} {c : ℕ} {b : Word} (a : Accepted e c b) where
 
   -- every write lies in a row of the table
   run-below : RowsBelow (capacityIn b + 2) (additionWrites e c b)
-  unfolding additionWrites hangWrites settleWrites
+  unfolding additionWrites hangWrites gainWrites settleWrites
   run-below = go (bringsIn e c b) refl
     where
       go : (k : Bool) → bringsIn e c b ≡ k → RowsBelow (capacityIn b + 2) (run k e c b)
-      go true k = omega (arith, free-row (a .good) (a .room) .low, free-below (a .good) (a .room), used-below b (innerRow e c b) (inner-found a k .0), edge-high (lastLetter e c b), end-cells e, end-cells (other e))
+      go true k = omega (arith, free-row (a .good) (a .room) .low, free-below (a .good) (a .room), used-below b (innerRow e c b) (inner-found a k .0), edge-high (lastLetter e c b), longest-fits a, end-cells e, end-cells (other e))
       go false k = omega (arith, end-cells e, end-cells (other e))
 
   -- what every addition writes fits a cell
   small : (capacityIn b + 2 < 65536) × (rowAfter e c b < 65536) × (cond (eqb (length (longestAfter e c b)) (sizeIn b + 1)) (rowAfter e c b) (endRow b (other e)) < 65536) × (sizeIn b + 1 < 65536) × (endCell e < 12) × (endCell (other e) < 12)
   small = omega (arith, a .good .sized .at-most, row-after-below, other-after-below, size-small (a .good), end-cells e, end-cells (other e))
 
+  -- so do the numbers that it carries
+  carried-small : (countOfLength (ruleOf b) (length (longestAfter e c b)) (added e c (lettersIn b)) < 65536) × (longestLength (ruleOf b) (added e c (lettersIn b)) < 65536)
+  carried-small =
+      let t = added e c (lettersIn b) in
+      let n : length t < 65536 = omega (arith, length-after a, size-small (a .good)) in
+      (omega (arith, length-count-most (ruleOf b) (length (longestAfter e c b)) t, count-length (ruleOf b) t), omega (arith, longest-length-fits (ruleOf b) t))
+
   -- and so does each number of the run
   run-fitting : Fitting b (additionWrites e c b)
-  unfolding additionWrites hangWrites settleWrites
+  unfolding additionWrites hangWrites gainWrites settleWrites
   run-fitting = go (bringsIn e c b) refl
     where
       go : (k : Bool) → bringsIn e c b ≡ k → Fitting b (run k e c b)
@@ -105,6 +116,8 @@ module _ {e : End} {c : ℕ} {b : Word} (a : Accepted e c b) where
             letter-byte (lastLetter e c b) (last-letter a k),
             edge-high (lastLetter e c b),
             count-small (a .good),
+            longest-fits a,
+            carried-small,
             small,
           )
       go false k = omega (arith, rows-fit, small)
@@ -133,37 +146,37 @@ module _ {e : End} {c : ℕ} {b : Word} (a : Accepted e c b) where
     where
       go : (k : Bool) → Misses (run k e c b) r f
       go true = m
-      go false = misses-after r f (hangWrites b (longestAfter e c b)) (settleWrites e b (longestAfter e c b) (rowAfter e c b)) m
+      go false = misses-after r f (hangWrites b (longestAfter e c b) ++ gainWrites e c b) (settleWrites e b (longestAfter e c b) (rowAfter e c b)) m
 
-  -- the capacity and the reading
+  -- the capacity
   pub capacity-after : capacityIn (afterAddition e c b) ≡ capacityIn b
-  unfolding capacityIn hangWrites settleWrites
+  unfolding capacityIn hangWrites gainWrites settleWrites
   capacity-after = cell-kept 0 8 (omega arith) (omega arith) (full-misses 0 8 (omega (arith, edge-high (lastLetter e c b))))
-
-  pub reading-after : readingIn (afterAddition e c b) ≡ readingIn b
-  unfolding readingIn hangWrites settleWrites
-  reading-after = cell-kept 0 11 (omega arith) (omega arith) (full-misses 0 11 (omega (arith, edge-high (lastLetter e c b))))
 
   -- the order of the rows and their ranks
   pub order-after : (i : ℕ) → i < capacityIn b → orderIn (afterAddition e c b) i ≡ orderIn b i
-  unfolding orderIn hangWrites settleWrites
+  unfolding orderIn hangWrites gainWrites settleWrites
   order-after i l = cell-kept (i + 2) 8 (omega arith) (omega arith) (full-misses (i + 2) 8 (omega (arith, edge-high (lastLetter e c b))))
 
   pub rank-after : (r : ℕ) → 2 ≤ r → r < capacityIn b + 2 → rankIn (afterAddition e c b) r ≡ rankIn b r
-  unfolding rankIn hangWrites settleWrites
+  unfolding rankIn hangWrites gainWrites settleWrites
   rank-after r l m = cell-kept r 9 m (omega arith) (full-misses r 9 (omega (arith, edge-high (lastLetter e c b))))
 
-  -- the cells that have no field
-  pub spare-after : (r f : ℕ) → 1 ≤ r → r < capacityIn b + 2 → 10 ≤ f → f < 12 → cell (afterAddition e c b) r f ≡ cell b r f
-  unfolding hangWrites settleWrites
-  spare-after r f l m i j = cell-kept r f m j (full-misses r f (omega (arith, edge-high (lastLetter e c b), end-cells e, end-cells (other e))))
+  -- the last cells: the reading, and those that have no field
+  pub spare-after : (r : ℕ) → r < capacityIn b + 2 → cell (afterAddition e c b) r 11 ≡ cell b r 11
+  unfolding hangWrites gainWrites settleWrites
+  spare-after r m = cell-kept r 11 m (omega arith) (full-misses r 11 (omega (arith, edge-high (lastLetter e c b), end-cells e, end-cells (other e))))
+
+  pub reading-after : readingIn (afterAddition e c b) ≡ readingIn b
+  unfolding readingIn
+  reading-after = spare-after 0 (omega arith)
 
   -- ---- what every addition writes
 
   -- what stands at the end of every run
   settle-puts : (r f x : ℕ) → Puts (settleWrites e b (longestAfter e c b) (rowAfter e c b)) r f x → Puts (additionWrites e c b) r f x
   unfolding additionWrites
-  settle-puts r f x p = puts-after r f (cond (bringsIn e c b) (hangWrites b (longestAfter e c b)) []) (settleWrites e b (longestAfter e c b) (rowAfter e c b)) x p
+  settle-puts r f x p = puts-after r f (cond (bringsIn e c b) (hangWrites b (longestAfter e c b) ++ gainWrites e c b) []) (settleWrites e b (longestAfter e c b) (rowAfter e c b)) x p
 
   -- the number of letters
   pub size-after : sizeIn (afterAddition e c b) ≡ sizeIn b + 1
@@ -194,32 +207,32 @@ module _ {e : End} {c : ℕ} {b : Word} (a : Accepted e c b) where
 
     -- the new row
     pub length-new : cell (afterAddition e c b) (freeRow b) 0 ≡ suc (length (longestAfter e c b))
-    unfolding hangWrites settleWrites
+    unfolding hangWrites gainWrites settleWrites
     length-new =
         let q = free-row (a .good) (a .room) in
         new-put (freeRow b) 0 (suc (length (longestAfter e c b))) (free-below (a .good) (a .room)) (omega arith) (inl (refl, refl, stored-length (spelt (longestAfter e c b)), omega (arith, edge-low (lastLetter e c b))))
 
     pub link-new : linkIn (afterAddition e c b) (freeRow b) ≡ linkRow e c b
-    unfolding linkIn hangWrites settleWrites
+    unfolding linkIn hangWrites gainWrites settleWrites
     link-new =
         let q = free-row (a .good) (a .room) in
         new-put (freeRow b) 1 (linkRow e c b) (free-below (a .good) (a .room)) (omega arith) (inr (inl (refl, refl, refl, omega (arith, edge-low (lastLetter e c b)))))
 
     pub inner-new : innerIn (afterAddition e c b) (freeRow b) ≡ innerRow e c b
-    unfolding innerIn hangWrites settleWrites
+    unfolding innerIn hangWrites gainWrites settleWrites
     inner-new =
         let q = free-row (a .good) (a .room) in
         new-put (freeRow b) 2 (innerRow e c b) (free-below (a .good) (a .room)) (omega arith) (inr (inr (inl (refl, refl, refl, omega (arith, edge-low (lastLetter e c b))))))
 
     pub outer-new : outerIn (afterAddition e c b) (freeRow b) ≡ lastLetter e c b
-    unfolding outerIn hangWrites settleWrites
+    unfolding outerIn hangWrites gainWrites settleWrites
     outer-new =
         let q = free-row (a .good) (a .room) in
         new-put (freeRow b) 3 (lastLetter e c b) (free-below (a .good) (a .room)) (omega arith) (inr (inr (inr (inl (refl, refl, refl, omega (arith, edge-low (lastLetter e c b)))))))
 
     -- the edge that leads to it
     pub edge-new : edgeIn (afterAddition e c b) (innerRow e c b) (lastLetter e c b) ≡ freeRow b
-    unfolding edgeIn hangWrites settleWrites
+    unfolding edgeIn hangWrites gainWrites settleWrites
     edge-new =
         let f = edge-high (lastLetter e c b) in
         new-put (innerRow e c b) (edgeCell (lastLetter e c b)) (freeRow b) (used-below b (innerRow e c b) (inner-found a k .0)) (omega arith)
@@ -227,8 +240,22 @@ module _ {e : End} {c : ℕ} {b : Word} (a : Accepted e c b) where
 
     -- and one palindrome more
     pub count-new : countIn (afterAddition e c b) ≡ countIn b + 1
-    unfolding countIn hangWrites settleWrites
+    unfolding countIn hangWrites gainWrites settleWrites
     count-new = new-put 0 10 (countIn b + 1) (omega arith) (omega arith) (inr (inr (inr (inr (inr (inl (refl, refl, refl, omega arith)))))))
+
+    -- which is counted among those of its length, and may be the longest
+    pub length-count-new : lengthCountIn (afterAddition e c b) (length (longestAfter e c b)) ≡ countOfLength (ruleOf b) (length (longestAfter e c b)) (added e c (lettersIn b))
+    unfolding lengthCountIn hangWrites gainWrites settleWrites
+    length-count-new =
+        let v = longestAfter e c b in
+        new-put (length v + 1) 10 (countOfLength (ruleOf b) (length v) (added e c (lettersIn b))) (omega (arith, longest-fits a)) (omega arith)
+        (inr (inr (inr (inr (inr (inr (inl (refl, refl, refl, omega (arith, longer-than-none a k, end-cells e, end-cells (other e))))))))))
+
+    pub longest-new : longestLengthIn (afterAddition e c b) ≡ longestLength (ruleOf b) (added e c (lettersIn b))
+    unfolding longestLengthIn hangWrites gainWrites settleWrites
+    longest-new =
+        new-put 1 10 (longestLength (ruleOf b) (added e c (lettersIn b))) (omega arith) (omega arith)
+        (inr (inr (inr (inr (inr (inr (inr (inl (refl, refl, refl, omega (arith, end-cells e, end-cells (other e)))))))))))
 
   -- ---- every other cell of a row
 
@@ -237,9 +264,23 @@ module _ {e : End} {c : ℕ} {b : Word} (a : Accepted e c b) where
   unfolding countIn additionWrites settleWrites
   count-old k = cell-kept 0 10 (omega arith) (omega arith) (rw k (omega (arith, end-cells e, end-cells (other e))))
 
+  -- and so does the longest
+  pub longest-old : bringsIn e c b ≡ false → longestLengthIn (afterAddition e c b) ≡ longestLengthIn b
+  unfolding longestLengthIn additionWrites settleWrites
+  longest-old k = cell-kept 1 10 (omega arith) (omega arith) (rw k (omega (arith, end-cells e, end-cells (other e))))
+
+  -- the number of palindromes of a length stays but for that of the new one
+  pub length-count-kept : (j : ℕ) → 1 ≤ j → j ≤ capacityIn b → (bringsIn e c b ≡ true → length (longestAfter e c b) ≢ j) → lengthCountIn (afterAddition e c b) j ≡ lengthCountIn b j
+  unfolding lengthCountIn additionWrites hangWrites gainWrites settleWrites
+  length-count-kept j l h n = cell-kept (j + 1) 10 (omega arith) (omega arith) (go (bringsIn e c b) refl)
+    where
+      go : (k : Bool) → bringsIn e c b ≡ k → Misses (run k e c b) (j + 1) 10
+      go true k = let o = n k in omega (arith, edge-high (lastLetter e c b), end-cells e, end-cells (other e))
+      go false k = omega (arith, end-cells e, end-cells (other e))
+
   -- the cells of a row stay but for the new row's and the edge that leads to it
   pub row-kept : (r f : ℕ) → r < capacityIn b + 2 → f < 8 → (bringsIn e c b ≡ true → (freeRow b ≡ r → f < 4 → ⊥) × (innerRow e c b ≡ r → edgeCell (lastLetter e c b) ≡ f → ⊥)) → cell (afterAddition e c b) r f ≡ cell b r f
-  unfolding additionWrites hangWrites settleWrites
+  unfolding additionWrites hangWrites gainWrites settleWrites
   row-kept r f l m n = cell-kept r f l (omega arith) (go (bringsIn e c b) refl)
     where
       settled : Misses (settleWrites e b (longestAfter e c b) (rowAfter e c b)) r f
@@ -248,7 +289,7 @@ module _ {e : End} {c : ℕ} {b : Word} (a : Accepted e c b) where
       go : (k : Bool) → bringsIn e c b ≡ k → Misses (run k e c b) r f
       go true k =
           let own : freeRow b ≡ r → f < 4 → ⊥ = n k .0 in
-          (λ p i. own p (omega arith), (λ p i. own p (omega arith), (λ p i. own p (omega arith), (λ p i. own p (omega arith), (n k .1, (λ p i. omega arith, settled))))))
+          (λ p i. own p (omega arith), (λ p i. own p (omega arith), (λ p i. own p (omega arith), (λ p i. own p (omega arith), (n k .1, (λ p i. omega arith, (λ p i. omega arith, (λ p i. omega arith, settled))))))))
       go false k = settled
 
   -- ---- the letters

@@ -205,7 +205,7 @@ module _ {e : End} {c : ℕ} {b : Word} (a : Accepted e c b) where
   nodes-stay k r u = old-node r (sym (same-rows k .used-same r) ∙ u)
 
   -- and the palindromes stay
-  same : bringsIn e c b ≡ false → SamePalindromes (ruleOf b) (lettersIn b) (added e c (lettersIn b))
+  pub same : bringsIn e c b ≡ false → SamePalindromes (ruleOf b) (lettersIn b) (added e c (lettersIn b))
   unfolding longestAfter
   same k = same-added (ruleOf b) (rule-inverse (readingIn b)) e (lettersIn b) c (stood a k)
 

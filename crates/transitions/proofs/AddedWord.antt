@@ -15,7 +15,7 @@ use Rattle.palindromes.specs.Place.{Stands, stands}
 use Rattle.palindromes.specs.End.{End, atRight, added, letterAt}
 use Rattle.palindromes.specs.Node.{Node, imaginary, spelt, linkOf, innerOf, spellingOf, around}
 use Rattle.palindromes.proofs.Tests.{both-are}
-use Rattle.palindromes.proofs.Words.{stands-length, added-length}
+use Rattle.palindromes.proofs.Words.{some-letters, stands-length, added-length}
 use Rattle.palindromes.proofs.Longest.{longest-suffix}
 use Rattle.palindromes.proofs.Places.{stands-true, stands-false, stands-empty}
 use Rattle.palindromes.proofs.NewIn.{longest-at}
@@ -116,6 +116,10 @@ module _ {e : End} {c : ℕ} {b : Word} (a : Accepted e c b) where
 
     pub link-found : (usedIn b (linkRow e c b) ≡ true) × (nodeIn b (linkRow e c b) ≡ linkOf (ruleOf b) (spelt (longestAfter e c b)))
     link-found = row-of-node (a .good) (linkOf (ruleOf b) (spelt (longestAfter e c b))) (link-old one-more)
+
+    -- it has a letter
+    pub longer-than-none : 0 < length (longestAfter e c b)
+    longer-than-none = some-letters (longestAfter e c b) (more-not-empty one-more)
 
     -- its last letter is a letter
     pub last-letter : isLetter (lastLetter e c b) ≡ true

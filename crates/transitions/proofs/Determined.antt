@@ -4,7 +4,7 @@
 use Prim.Native.Nat.{ℕ, zero, suc, _+_, _*_, _/_, _%_, _-_, _≤_, _<_}
 use native.Mathlib.Nat.{add-zero, eq-or-lt-of-le, le-of-suc-le-suc}
 use native.Mathlib.Decide.{decLt}
-use native.Mathlib.Numerals.{add-two}
+use native.Mathlib.Numerals.{add-one, add-two}
 use native.Mathlib.Omega.{arith}
 use mathlib.Core.Path.{_≡_, refl, sym, ap, _∙_}
 use mathlib.Core.Bool.{true, false}
@@ -19,7 +19,7 @@ use Rattle.palindromes.specs.Node.{around}
 use Rattle.palindromes.specs.Eertree.{EdgeIs}
 use Rattle.palindromes.proofs.Tests.{decided}
 use Rattle.eertree.proofs.Rows.{word-row}
-use Rattle.store.specs.Layout.{cellAt, cell, capacityIn, sizeIn, countIn, readingIn, endRow, linkIn, innerIn, outerIn, edgeCell, edgeIn, orderIn, rankIn, usedIn, lettersAt, lettersIn}
+use Rattle.store.specs.Layout.{cellAt, cell, capacityIn, sizeIn, countIn, readingIn, endRow, linkIn, innerIn, outerIn, edgeCell, edgeIn, orderIn, rankIn, usedIn, lengthCountIn, longestLengthIn, lettersAt, lettersIn}
 use Rattle.store.specs.Good.{ruleOf, tableIn, nodeIn, Good}
 use Rattle.store.proofs.Sizes.{letters-length}
 use Rattle.transitions.specs.Bytes.{Bytes}
@@ -56,7 +56,7 @@ module _ (b b′ : Word) (h : Bytes b) (h′ : Bytes b′) where
 
 -- ---- what two stores have in common
 
--- the two stores have the same reading, show the same letters and the same eertree in the same rows, and are equal where a store has no field: in the last two cells of a row other than row 0, and
+-- the two stores have the same reading, show the same letters and the same eertree in the same rows, and are equal where a store has no field: in the last cell of a row other than row 0, and
 -- behind the places of the letters
 pub record Alike (b b′ : Word) : Type 0 where
   pub lengths : length b ≡ length b′
@@ -66,7 +66,7 @@ pub record Alike (b b′ : Word) : Type 0 where
   pub used : (r : ℕ) → usedIn b r ≡ usedIn b′ r
   pub nodes : (r : ℕ) → usedIn b r ≡ true → nodeIn b r ≡ nodeIn b′ r
   pub order : (i : ℕ) → i < capacityIn b → orderIn b i ≡ orderIn b′ i
-  pub spare : (r f : ℕ) → 1 ≤ r → r < capacityIn b + 2 → 10 ≤ f → f < 12 → cell b r f ≡ cell b′ r f
+  pub spare : (r : ℕ) → r < capacityIn b + 2 → cell b r 11 ≡ cell b′ r 11
   pub rest : (i : ℕ) → lettersAt (capacityIn b) + capacityIn b ≤ i → getD b i 0 ≡ getD b′ i 0
 
 -- the two stores agree in cell f of row r
@@ -88,6 +88,12 @@ module _ {b b′ : Word} (g : Good b) (g′ : Good b′) (a : Alike b b′) wher
 
   same-count : countIn b ≡ countIn b′
   same-count = cc (g .count-is, g′ .count-is, a .letters, same-rule)
+
+  same-length-count : (k : ℕ) → 1 ≤ k → k ≤ capacityIn b → lengthCountIn b k ≡ lengthCountIn b′ k
+  same-length-count k l h = cc (g .length-counts k l h, g′ .length-counts k l (omega (arith, a .capacity)), a .letters, same-rule)
+
+  same-longest : longestLengthIn b ≡ longestLengthIn b′
+  same-longest = cc (g .longest-is, g′ .longest-is, a .letters, same-rule)
 
   -- ---- rows
 
@@ -185,17 +191,17 @@ module _ {b b′ : Word} (g : Good b) (g′ : Good b′) (a : Alike b b′) wher
       let o : orderIn b′ (rankIn b r) ≡ r = sym (a .order (rankIn b r) (k .high)) ∙ k .back in
       sym (rw o at (g′ .order (rankIn b r) (omega (arith, k .high, a .capacity)) .back))
 
-  -- the header, the rows of both ends, and the order with the ranks
+  -- the header, the rows of both ends, the order with the ranks, and the numbers of each length
   last-cells : (r : ℕ) → r < capacityIn b + 2 → Agree b b′ r 8 × Agree b b′ r 9 × Agree b b′ r 10 × Agree b b′ r 11
-  unfolding capacityIn sizeIn countIn readingIn endRow orderIn rankIn
+  unfolding capacityIn sizeIn countIn readingIn longestLengthIn endRow orderIn rankIn lengthCountIn
   last-cells zero l = (a .capacity, same-size, same-count, a .reading)
   last-cells (suc zero) l =
-      (same-end atLeft, same-end atRight, a .spare 1 10 (omega arith) l (omega arith) (omega arith), a .spare 1 11 (omega arith) l (omega arith) (omega arith))
+      (same-end atLeft, same-end atRight, same-longest, a .spare 1 l)
   last-cells (suc (suc i)) l = (
     rw (add-two i) at (a .order i (omega arith)),
     same-rank (suc (suc i)) (omega arith) l,
-    a .spare (suc (suc i)) 10 (omega arith) l (omega arith) (omega arith),
-    a .spare (suc (suc i)) 11 (omega arith) l (omega arith) (omega arith),
+    rw (add-one (suc i)) at (same-length-count (suc i) (omega arith) (omega arith)),
+    a .spare (suc (suc i)) l,
   )
 
   all-cells : (r f : ℕ) → r < capacityIn b + 2 → f < 12 → Agree b b′ r f

@@ -6,7 +6,7 @@ use native.Mathlib.Decide.{decLt}
 use native.Mathlib.Omega.{arith}
 use mathlib.Core.Path.{_≡_, refl, ap, _∙_}
 use mathlib.Core.Bool.{true, false, cond, _&&_, and-false}
-use mathlib.Core.Logic.{_⊎_, inl, inr}
+use mathlib.Core.Logic.{_≢_, _⊎_, inl, inr, ⊎-elim}
 use mathlib.Core.List.{[], _∷_, _++_}
 use lib.Dec.{eqb}
 use lib.ListN.{length, getD, set, drop, take, replicate, length-replicate, getD-replicate, List·getD-append}
@@ -18,10 +18,12 @@ use Rattle.palindromes.specs.End.{End, atLeft, atRight}
 use Rattle.palindromes.specs.Refusal.{storeSize}
 use Rattle.palindromes.proofs.Longest.{longest-empty}
 use Rattle.palindromes.proofs.Palindromes.{count-empty}
+use Rattle.palindromes.proofs.Answers.{longest-length-empty}
+use Rattle.palindromes.proofs.Lengths.{length-count-empty}
 use Rattle.palindromes.proofs.Tests.{not-true-false, false-not-true}
 use Rattle.eertree.proofs.Covers.{covers-shows}
 use Rattle.eertree.proofs.Nodes.{root-zero, root-one}
-use Rattle.store.specs.Layout.{cellAt, cell, capacityIn, sizeIn, countIn, readingIn, endRow, lengthIn, linkIn, innerIn, outerIn, edgeCell, edgeIn, orderIn, rankIn, usedIn, lettersAt, lettersIn}
+use Rattle.store.specs.Layout.{cellAt, cell, capacityIn, sizeIn, countIn, readingIn, endRow, lengthIn, linkIn, innerIn, outerIn, edgeCell, edgeIn, orderIn, rankIn, usedIn, lengthCountIn, longestLengthIn, lettersAt, lettersIn}
 use Rattle.store.specs.Writes.{write}
 use Rattle.store.specs.Good.{ruleOf, tableIn, nodeIn, Sized, OrderIs, RankIs, EndIs, Good}
 use Rattle.store.proofs.Writes.{Fitting, look, RowsBelow, cell-writes, length-writes, drop-writes, getD-writes}
@@ -42,14 +44,15 @@ unfolding orderWrites
 order-next n r f v = look-append (orderWrites n) (write (n + 2) 8 (n + 2) ∷ write (n + 2) 9 n ∷ []) r f v
 
 -- the roots, and the fields of a row, are not written
-order-keeps : (n r f v : ℕ) → (r < 2) ⊎ (f < 8) → look (orderWrites n) r f v ≡ v
+order-keeps : (n r f v : ℕ) → (r < 2) ⊎ ((8 ≢ f) × (9 ≢ f)) → look (orderWrites n) r f v ≡ v
 unfolding orderWrites
 order-keeps zero r f v h = refl
-order-keeps (suc n) r f v h = cc (order-next n r f v, off h 8 (omega arith), off h 9 (omega arith), order-keeps n r f v h)
+order-keeps (suc n) r f v h =
+    cc (order-next n r f v, off 8 (⊎-elim inl (λ k. inr (k .0)) h), off 9 (⊎-elim inl (λ k. inr (k .1)) h), order-keeps n r f v h)
   where
-    off : (r < 2) ⊎ (f < 8) → (g : ℕ) → 8 ≤ g → (eqb g f && eqb (n + 2) r) ≡ false
-    off (inl k) g l = cc (ne-eqb (n + 2) r (λ e. omega arith), and-false (eqb g f))
-    off (inr k) g l = cc (ne-eqb g f (λ e. omega arith))
+    off : (g : ℕ) → (r < 2) ⊎ (g ≢ f) → (eqb g f && eqb (n + 2) r) ≡ false
+    off g (inl k) = cc (ne-eqb (n + 2) r (λ e. omega arith), and-false (eqb g f))
+    off g (inr k) = cc (ne-eqb g f k)
 
 -- place i holds row i + 2, and its rank is i
 order-holds : (n i v : ℕ) → i < n → (look (orderWrites n) (i + 2) 8 v ≡ i + 2) × (look (orderWrites n) (i + 2) 9 v ≡ i)
@@ -141,19 +144,19 @@ module _ (m k : ℕ) (b : Word) (reading : m < 2) (high : k ≤ 1024) (long : st
   opened-cell r f h l = cell-writes (cleared k b) (openingWrites m k) opening-fits r f l ∙ ap (look (openingWrites m k) r f) (cleared-cell r f h l)
 
   -- a cell of a root, or one that is no place of the order and no rank
-  opened-head : (r f : ℕ) → r < k + 2 → f < 12 → (r < 2) ⊎ (f < 8) → cell (opened m k b) r f ≡ look (headWrites m k) r f 0
+  opened-head : (r f : ℕ) → r < k + 2 → f < 12 → (r < 2) ⊎ ((8 ≢ f) × (9 ≢ f)) → cell (opened m k b) r f ≡ look (headWrites m k) r f 0
   opened-head r f h l e = opened-cell r f h l ∙ order-keeps k r f (look (headWrites m k) r f 0) e
 
   -- a root's cell
   opened-root : (r f : ℕ) → r < 2 → f < 12 → cell (opened m k b) r f ≡ look (headWrites m k) r f 0
   opened-root r f h l = opened-head r f (omega arith) l (inl h)
 
-  -- a free row is zero
-  opened-free : (r f : ℕ) → 2 ≤ r → r < k + 2 → f < 8 → cell (opened m k b) r f ≡ 0
-  opened-free r f n h l =
+  -- a row is zero but for its place of the order and its rank
+  opened-free : (r f : ℕ) → 2 ≤ r → r < k + 2 → f < 12 → (8 ≢ f) × (9 ≢ f) → cell (opened m k b) r f ≡ 0
+  opened-free r f n h l d =
       let z = ne-eqb 0 r (λ e. omega arith) in
       let o = ne-eqb 1 r (λ e. omega arith) in
-      opened-head r f h (omega arith) (inr l) ∙ cc (z, o, and-false (eqb 8 f), and-false (eqb 11 f), and-false (eqb 0 f), and-false (eqb 9 f))
+      opened-head r f h l (inr d) ∙ cc (z, o, and-false (eqb 8 f), and-false (eqb 11 f), and-false (eqb 0 f), and-false (eqb 9 f))
 
   -- place i of the order
   pub opened-order : (i : ℕ) → i < k → orderIn (opened m k b) i ≡ i + 2
@@ -184,6 +187,15 @@ module _ (m k : ℕ) (b : Word) (reading : m < 2) (high : k ≤ 1024) (long : st
   pub opened-count : countIn (opened m k b) ≡ 0
   unfolding countIn
   opened-count = opened-root 0 10 (omega arith) (omega arith)
+
+  -- no palindrome of any length
+  opened-length-count : (j : ℕ) → 1 ≤ j → j ≤ k → lengthCountIn (opened m k b) j ≡ 0
+  unfolding lengthCountIn
+  opened-length-count j l h = opened-free (j + 1) 10 (omega arith) (omega arith) (omega arith) (λ e. omega arith, λ e. omega arith)
+
+  opened-longest : longestLengthIn (opened m k b) ≡ 0
+  unfolding longestLengthIn
+  opened-longest = opened-root 1 10 (omega arith) (omega arith)
 
   opened-end : (e : End) → endRow (opened m k b) e ≡ 1
   unfolding endRow
@@ -278,6 +290,8 @@ module _ (m k : ℕ) (b : Word) (reading : m < 2) (high : k ≤ 1024) (long : st
         letters = rw opened-letters refl;
         table = rw opened-letters (covers-shows (roots-cover (ruleOf (opened m k b)) opened-roots) (roots-end (ruleOf (opened m k b)) opened-roots));
         count-is = cc (opened-count, opened-letters, count-empty (ruleOf (opened m k b)));
+        length-counts = λ j l h. cc (opened-length-count j l (omega arith), opened-letters, length-count-empty (ruleOf (opened m k b)) j);
+        longest-is = cc (opened-longest, opened-letters, longest-length-empty (ruleOf (opened m k b)));
         ends = opened-ends;
         order = λ i h. opened-order-is i (omega arith);
         rank = λ r l h. opened-rank-is r l (omega arith);
@@ -288,4 +302,4 @@ module _ (m k : ℕ) (b : Word) (reading : m < 2) (high : k ≤ 1024) (long : st
     where
       free : (r f : ℕ) → r < capacityIn (opened m k b) + 2 → usedIn (opened m k b) r ≡ false → f < 8 → Dec (r < 2) → cell (opened m k b) r f ≡ 0
       free r f h u l (yes q) = absurd (false-not-true u (used-root (opened m k b) r q))
-      free r f h u l (no q) = opened-free r f (omega arith) (omega (arith, opened-capacity)) l
+      free r f h u l (no q) = opened-free r f (omega arith) (omega (arith, opened-capacity)) (omega arith) (λ e. omega arith, λ e. omega arith)

@@ -2,6 +2,7 @@
 -- `Removed` says all that a caller reads off the new bytes, and `removal` proves it.
 -- Rests on `RemovedBytes` for the cells and the letters, on `RemovedOrder` and `RemovedTable` for the rows, and on `RemovedWord` for the count and the end across.
 use Prim.Native.Nat.{ℕ, _+_, _-_, _≤_, _<_}
+use native.Mathlib.Decide.{ℕ-discrete}
 use native.Mathlib.Omega.{arith}
 use mathlib.Core.Path.{_≡_, refl, sym, _∙_}
 use mathlib.Core.Bool.{Bool, true, false}
@@ -9,12 +10,13 @@ use mathlib.Core.Logic.{_≢_, ⊎-elim}
 use lib.Dec.{eqb}
 use lib.ListN.{length, drop}
 use Rattle.palindromes.specs.Word.{Word}
-use Rattle.palindromes.specs.Record.{count}
+use Rattle.palindromes.specs.Record.{count, countOfLength, longestLength}
 use Rattle.palindromes.specs.End.{End, other, removed, longestAt}
 use Rattle.palindromes.specs.Node.{spelt}
-use Rattle.palindromes.proofs.Tests.{decided}
+use Rattle.palindromes.proofs.Tests.{false-not-true, decided}
 use Rattle.palindromes.proofs.Change.{stands-removed}
-use Rattle.store.specs.Layout.{cell, capacityIn, sizeIn, countIn, readingIn, endRow, linkIn, orderIn, usedIn, lettersIn}
+use Rattle.eertree.proofs.Lengths.{same-length-count, same-longest, other-length-count}
+use Rattle.store.specs.Layout.{cell, capacityIn, sizeIn, countIn, readingIn, endRow, linkIn, orderIn, usedIn, lengthCountIn, longestLengthIn, lettersIn}
 use Rattle.store.specs.Good.{ruleOf, nodeIn, Sized, EndIs, Good}
 use Rattle.transitions.specs.Rows.{rowOf}
 use Rattle.transitions.specs.Opening.{usedBytes}
@@ -22,8 +24,8 @@ use Rattle.transitions.specs.Removal.{longestBefore, takesOut, afterRemo
 use Rattle.transitions.proofs.Rows.{covers, row-of-node}
 use Rattle.transitions.specs.Bytes.{Bytes}
 use Rattle.transitions.proofs.Added.{each-end}
-use Rattle.transitions.proofs.RemovedWord.{letters-left, longest-left, other-left, count-same, count-less}
-use Rattle.transitions.proofs.RemovedBytes.{end-holds, capacity-left, reading-left, size-left, end-left, other-end-left, spare-left, count-left, count-kept, length-kept, letters-are, rest-kept, places-free, bytes-kept}
+use Rattle.transitions.proofs.RemovedWord.{letters-left, longest-left, other-left, same-left, count-same, one-less, count-less}
+use Rattle.transitions.proofs.RemovedBytes.{end-holds, capacity-left, reading-left, size-left, end-left, other-end-left, spare-left, count-left, length-count-left, longest-length-left, count-kept, longest-length-kept, length-count-kept, length-kept, letters-are, rest-kept, places-free, bytes-kept}
 use Rattle.transitions.proofs.RemovedOrder.{order-left, rank-left, order-stays, used-gone, used-kept}
 use Rattle.transitions.proofs.RemovedTable.{used-left, rule-left, roots-left, free-left, node-left, table-left}
 
@@ -34,6 +36,22 @@ module _ (e : End) {b : Word} (g : Good b) (n : 0 < sizeIn b) where
   count-right : countIn (afterRemoval e b) ≡ count (ruleOf b) (removed e (lettersIn b))
   count-right =
       ⊎-elim (λ k. omega (arith, count-left e g k, count-less e g k)) (λ k. count-kept e g k ∙ sym (count-same e g k)) (decided (takesOut e b))
+
+  -- and those of each length
+  length-counts-right : (j : ℕ) → 1 ≤ j → j ≤ capacityIn b → lengthCountIn (afterRemoval e b) j ≡ countOfLength (ruleOf b) j (removed e (lettersIn b))
+  length-counts-right j l h = ⊎-elim (λ k. gone k (ℕ-discrete (length (longestBefore e b)) j)) stays (decided (takesOut e b))
+    where
+      gone : takesOut e b ≡ true → Dec (length (longestBefore e b) ≡ j) → lengthCountIn (afterRemoval e b) j ≡ countOfLength (ruleOf b) j (removed e (lettersIn b))
+      gone k (yes p) = rw (← p) (length-count-left e g k)
+      gone k (no d) = length-count-kept e g j l h (λ t. d) ∙ g .length-counts j l h ∙ other-length-count (one-less e g k) j d
+
+      stays : takesOut e b ≡ false → lengthCountIn (afterRemoval e b) j ≡ countOfLength (ruleOf b) j (removed e (lettersIn b))
+      stays k = length-count-kept e g j l h (λ t. absurd (false-not-true k t)) ∙ g .length-counts j l h ∙ sym (same-length-count (ruleOf b) (same-left e g k) j)
+
+  -- and has the length of the longest
+  longest-right : longestLengthIn (afterRemoval e b) ≡ longestLength (ruleOf b) (removed e (lettersIn b))
+  longest-right =
+      ⊎-elim (longest-length-left e g) (λ k. longest-length-kept e g k ∙ g .longest-is ∙ sym (same-longest (ruleOf b) (same-left e g k))) (decided (takesOut e b))
 
   -- ---- the ends
 
@@ -81,6 +99,8 @@ module _ (e : End) {b : Word} (g : Good b) (n : 0 < sizeIn b) where
         letters = rw (letters-are e g n) (letters-left e g n);
         table = table-left e g n;
         count-is = rw (rule-left e g, letters-are e g n) count-right;
+        length-counts = λ j l h. rw (rule-left e g, letters-are e g n) (length-counts-right j l (rw (capacity-left e g) at h));
+        longest-is = rw (rule-left e g, letters-are e g n) longest-right;
         ends = each-end (EndIs (afterRemoval e b)) e end-here end-across;
         order = order-left e g;
         rank = rank-left e g;
@@ -100,7 +120,7 @@ pub record Removed (e : End) (b : Word) : Type 0 where
   pub size : sizeIn (afterRemoval e b) ≡ sizeIn b - 1
   pub letters : lettersIn (afterRemoval e b) ≡ removed e (lettersIn b)
   pub count-is : countIn (afterRemoval e b) ≡ count (ruleOf b) (removed e (lettersIn b))
-  pub spare : (r f : ℕ) → 1 ≤ r → r < capacityIn b + 2 → 10 ≤ f → f < 12 → cell (afterRemoval e b) r f ≡ cell b r f
+  pub spare : (r : ℕ) → r < capacityIn b + 2 → cell (afterRemoval e b) r 11 ≡ cell b r 11
   pub gone-row : takesOut e b ≡ true → usedIn (afterRemoval e b) (endRow b e) ≡ false
   pub other-row : (r : ℕ) → (takesOut e b ≡ true → r ≢ endRow b e) → usedIn (afterRemoval e b) r ≡ usedIn b r
   pub nodes : (r : ℕ) → usedIn (afterRemoval e b) r ≡ true → nodeIn (afterRemoval e b) r ≡ nodeIn b r

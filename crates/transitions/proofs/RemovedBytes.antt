@@ -8,23 +8,30 @@ use native.Mathlib.Omega.{arith}
 use mathlib.Core.Path.{_≡_, refl, sym, ap, _∙_}
 use mathlib.Core.Bool.{Bool, true, false, cond}
 use mathlib.Core.Logic.{_≢_, inl, inr}
-use mathlib.Core.List.{[], _∷_, _++_}
+use mathlib.Core.List.{List, [], _∷_, _++_}
 use lib.Dec.{eqb}
 use lib.ListN.{length, getD, set, take, drop}
 use lib.Seq.{sets, length-sets, take-set-le, drop-set-add, drop-set-lt, getD-drop, getD-set-same}
 use Rattle.palindromes.specs.Word.{Word}
+use Rattle.palindromes.specs.Record.{countOfLength, longestLength}
 use Rattle.palindromes.specs.End.{End, other, removed, longestAt}
 use Rattle.palindromes.specs.Node.{spelt}
+use Rattle.palindromes.proofs.Words.{some-letters, stands-length}
+use Rattle.palindromes.proofs.Palindromes.{count-length}
+use Rattle.palindromes.proofs.Order.{longest-length-fits}
+use Rattle.palindromes.proofs.Lengths.{length-count-most}
 use Rattle.eertree.proofs.Shrink.{leaf-high}
-use Rattle.store.specs.Layout.{cell, capacityIn, sizeIn, countIn, readingIn, endCell, endRow, linkIn, innerIn, outerIn, edgeCell, edgeIn, orderIn, rankIn, lettersAt, lettersIn}
+use Rattle.eertree.proofs.Lengths.{more-palindrome, more-length-count, more-longest}
+use Rattle.store.specs.Layout.{cell, capacityIn, sizeIn, countIn, readingIn, endCell, endRow, linkIn, innerIn, outerIn, edgeCell, edgeIn, orderIn, rankIn, lengthCountIn, longestLengthIn, lettersAt, lettersIn}
 use Rattle.store.specs.Good.{ruleOf, nodeIn, Good}
+use Rattle.store.specs.Writes.{Write}
 use Rattle.store.proofs.Writes.{look, Fitting, RowsBelow, fitting-kept, cell-writes, length-writes, drop-writes, cell-sets}
 use Rattle.store.proofs.Parts.{drop-sets, sets-part}
 use Rattle.store.proofs.Edges.{edge-low, edge-high}
-use Rattle.store.proofs.Sizes.{used-below}
+use Rattle.store.proofs.Sizes.{letters-length, used-below}
 use Rattle.transitions.specs.Rows.{rowOf}
 use Rattle.transitions.specs.Opening.{usedBytes}
-use Rattle.transitions.specs.Removal.{longestBefore, takesOut, dropWrites, leaveWrites, removalWrites, afterRemoval}
+use Rattle.transitions.specs.Removal.{longestBefore, takesOut, dropWrites, lossWrites, leaveWrites, removalWrites, afterRemoval}
 use Rattle.transitions.proofs.Rows.{covers, used-rank, count-most, row-of-small, end-small, link-small, size-small}
 use Rattle.transitions.specs.Bytes.{Bytes}
 use Rattle.transitions.proofs.AddedRuns.{Misses, Puts, look-misses, look-puts, misses-after, puts-after, bytes-set, bytes-sets, bytes-writes}
@@ -32,6 +39,10 @@ use Rattle.transitions.proofs.AddedBytes.{used-bytes-fit, letters-from,
 use Rattle.transitions.proofs.RemovedWord.{length-left, letters-left, one-less}
 
 -- ---- the run of a removal
+
+-- with the row of a palindrome that goes, or without
+abbrev run : Bool → End → Word → List Write
+run k e b = cond k (dropWrites b (endRow b e) ++ lossWrites e b) [] ++ leaveWrites e b
 
 module _ (e : End) {b : Word} (g : Good b) where
   -- the row of the call's end holds the longest palindrome there
@@ -71,6 +82,27 @@ module _ (e : End) {b : Word} (g : Good b) where
       edge-high (outerIn b (endRow b e)),
     )
 
+    -- it has a letter, and no more than there is room for
+    gone-length : (0 < length (longestBefore e b)) × (length (longestBefore e b) ≤ capacityIn b)
+    gone-length =
+        let o = one-less e g k in
+        (some-letters (longestBefore e b) (more-palindrome o .non-empty), omega (arith, stands-length (o .there), letters-length (g .sized), g .sized .letters-fit))
+
+    -- what is carried without it is not above what was
+    carried-small :
+        (countOfLength (ruleOf b) (length (longestBefore e b)) (removed e (lettersIn b)) < 65536) × (longestLength (ruleOf b) (removed e (lettersIn b)) < 65536)
+    carried-small =
+        let o = one-less e g k in
+        let n : length (lettersIn b) < 65536 = omega (arith, letters-length (g .sized), size-small g) in (
+          omega (
+            arith,
+            more-length-count o (length (longestBefore e b)),
+            length-count-most (ruleOf b) (length (longestBefore e b)) (lettersIn b),
+            count-length (ruleOf b) (lettersIn b),
+          ),
+          omega (arith, more-longest o, longest-length-fits (ruleOf b) (lettersIn b)),
+        )
+
   -- the row that the other end gets fits a cell
   other-left-small : cond (eqb (length (longestBefore e b)) (sizeIn b)) (linkIn b (endRow b e)) (endRow b (other e)) < 65536
   other-left-small = go (eqb (length (longestBefore e b)) (sizeIn b))
@@ -81,23 +113,23 @@ module _ (e : End) {b : Word} (g : Good b) where
 
   -- every write lies in a row of the table
   run-below : RowsBelow (capacityIn b + 2) (removalWrites e b)
-  unfolding removalWrites dropWrites leaveWrites
+  unfolding removalWrites dropWrites lossWrites leaveWrites
   run-below = go (takesOut e b) refl
     where
-      go : (t : Bool) → takesOut e b ≡ t → RowsBelow (capacityIn b + 2) (cond t (dropWrites b (endRow b e)) [] ++ leaveWrites e b)
-      go true k = omega (arith, gone-rows k, end-cells e, end-cells (other e))
+      go : (t : Bool) → takesOut e b ≡ t → RowsBelow (capacityIn b + 2) (run t e b)
+      go true k = omega (arith, gone-rows k, gone-length k, end-cells e, end-cells (other e))
       go false k = omega (arith, end-cells e, end-cells (other e))
 
   -- and its number fits its cell
   run-fitting : Fitting b (removalWrites e b)
-  unfolding removalWrites dropWrites leaveWrites
+  unfolding removalWrites dropWrites lossWrites leaveWrites
   run-fitting = go (takesOut e b) refl
     where
       small : (capacityIn b + 2 < 65536) × (rowOf b (spelt (longestAt (ruleOf b) e (removed e (lettersIn b)))) < 65536) × (sizeIn b - 1 < 65536) × (endCell e < 12) × (endCell (other e) < 12)
       small = omega (arith, g .sized .at-most, row-of-small g (spelt (longestAt (ruleOf b) e (removed e (lettersIn b)))), size-small g, end-cells e, end-cells (other e))
 
-      go : (t : Bool) → takesOut e b ≡ t → Fitting b (cond t (dropWrites b (endRow b e)) [] ++ leaveWrites e b)
-      go true k = omega (arith, used-bytes-fit (g .sized), gone-rows k, other-left-small, small)
+      go : (t : Bool) → takesOut e b ≡ t → Fitting b (run t e b)
+      go true k = omega (arith, used-bytes-fit (g .sized), gone-rows k, gone-length k, carried-small k, other-left-small, small)
       go false k = omega (arith, used-bytes-fit (g .sized), other-left-small, small)
 
   -- ---- a cell of the table
@@ -118,36 +150,36 @@ module _ (e : End) {b : Word} (g : Good b) where
   -- ---- what every removal leaves as it was
 
   -- the writes to the header and the ends miss the cell, and so do those that take a row out, if one goes
-  either-misses : (r f : ℕ) → Misses (leaveWrites e b) r f → (takesOut e b ≡ true → Misses (dropWrites b (endRow b e) ++ leaveWrites e b) r f) → Misses (removalWrites e b) r f
+  either-misses : (r f : ℕ) → Misses (leaveWrites e b) r f → (takesOut e b ≡ true → Misses (run true e b) r f) → Misses (removalWrites e b) r f
   unfolding removalWrites
   either-misses r f m n = go (takesOut e b) refl
     where
-      go : (t : Bool) → takesOut e b ≡ t → Misses (cond t (dropWrites b (endRow b e)) [] ++ leaveWrites e b) r f
+      go : (t : Bool) → takesOut e b ≡ t → Misses (run t e b) r f
       go true k = n k
       go false k = m
 
-  full-misses : (r f : ℕ) → Misses (dropWrites b (endRow b e) ++ leaveWrites e b) r f → Misses (removalWrites e b) r f
-  full-misses r f m = either-misses r f (misses-after r f (dropWrites b (endRow b e)) (leaveWrites e b) m) λ k. m
+  full-misses : (r f : ℕ) → Misses (run true e b) r f → Misses (removalWrites e b) r f
+  full-misses r f m = either-misses r f (misses-after r f (dropWrites b (endRow b e) ++ lossWrites e b) (leaveWrites e b) m) λ k. m
 
-  -- the capacity and the reading
+  -- the capacity
   pub capacity-left : capacityIn (afterRemoval e b) ≡ capacityIn b
-  unfolding capacityIn dropWrites leaveWrites
+  unfolding capacityIn dropWrites lossWrites leaveWrites
   capacity-left = cell-kept 0 8 (omega arith) (omega arith) (full-misses 0 8 (omega (arith, edge-high (outerIn b (endRow b e)))))
 
-  pub reading-left : readingIn (afterRemoval e b) ≡ readingIn b
-  unfolding readingIn dropWrites leaveWrites
-  reading-left = cell-kept 0 11 (omega arith) (omega arith) (full-misses 0 11 (omega (arith, edge-high (outerIn b (endRow b e)))))
+  -- the last cells: the reading, and those that have no field
+  pub spare-left : (r : ℕ) → r < capacityIn b + 2 → cell (afterRemoval e b) r 11 ≡ cell b r 11
+  unfolding dropWrites lossWrites leaveWrites
+  spare-left r m = cell-kept r 11 m (omega arith) (full-misses r 11 (omega (arith, edge-high (outerIn b (endRow b e)), end-cells e, end-cells (other e))))
 
-  -- the cells that have no field
-  pub spare-left : (r f : ℕ) → 1 ≤ r → r < capacityIn b + 2 → 10 ≤ f → f < 12 → cell (afterRemoval e b) r f ≡ cell b r f
-  unfolding dropWrites leaveWrites
-  spare-left r f l m i j = cell-kept r f m j (full-misses r f (omega (arith, edge-high (outerIn b (endRow b e)), end-cells e, end-cells (other e))))
+  pub reading-left : readingIn (afterRemoval e b) ≡ readingIn b
+  unfolding readingIn
+  reading-left = spare-left 0 (omega arith)
 
   -- ---- what every removal writes
 
   leave-puts : (r f x : ℕ) → Puts (leaveWrites e b) r f x → Puts (removalWrites e b) r f x
   unfolding removalWrites
-  leave-puts r f x p = puts-after r f (cond (takesOut e b) (dropWrites b (endRow b e)) []) (leaveWrites e b) x p
+  leave-puts r f x p = puts-after r f (cond (takesOut e b) (dropWrites b (endRow b e) ++ lossWrites e b) []) (leaveWrites e b) x p
 
   -- the number of letters
   pub size-left : sizeIn (afterRemoval e b) ≡ sizeIn b - 1
@@ -172,13 +204,13 @@ module _ (e : End) {b : Word} (g : Good b) where
   -- ---- the row that goes
 
   module _ (k : takesOut e b ≡ true) where
-    gone-put : (r f x : ℕ) → r < capacityIn b + 2 → f < 12 → Puts (dropWrites b (endRow b e) ++ leaveWrites e b) r f x → cell (afterRemoval e b) r f ≡ x
+    gone-put : (r f x : ℕ) → r < capacityIn b + 2 → f < 12 → Puts (run true e b) r f x → cell (afterRemoval e b) r f ≡ x
     unfolding removalWrites
     gone-put r f x l m p = cell-put r f x l m (rw k p)
 
     -- its length, its link, its inner row and its outer letter are cleared
     pub row-cleared : (f : ℕ) → f < 4 → cell (afterRemoval e b) (endRow b e) f ≡ 0
-    unfolding dropWrites leaveWrites
+    unfolding dropWrites lossWrites leaveWrites
     row-cleared zero l = gone-put (endRow b e) 0 0 (gone-low k) (omega arith) (inl (refl, refl, refl, omega (arith, gone-high k, edge-low (outerIn b (endRow b e)))))
     row-cleared (suc zero) l = gone-put (endRow b e) 1 0 (gone-low k) (omega arith) (inr (inl (refl, refl, refl, omega (arith, gone-high k, edge-low (outerIn b (endRow b e))))))
     row-cleared (suc (suc zero)) l = gone-put (endRow b e) 2 0 (gone-low k) (omega arith) (inr (inr (inl (refl, refl, refl, omega (arith, gone-high k, edge-low (outerIn b (endRow b e)))))))
@@ -187,7 +219,7 @@ module _ (e : End) {b : Word} (g : Good b) where
 
     -- so is the edge that leads to it
     pub edge-cleared : edgeIn (afterRemoval e b) (innerIn b (endRow b e)) (outerIn b (endRow b e)) ≡ 0
-    unfolding edgeIn dropWrites leaveWrites
+    unfolding edgeIn dropWrites lossWrites leaveWrites
     edge-cleared =
         let h = gone-rows k in
         gone-put (innerIn b (endRow b e)) (edgeCell (outerIn b (endRow b e))) 0 (h .1) (omega arith)
@@ -195,25 +227,25 @@ module _ (e : End) {b : Word} (g : Good b) where
 
     -- it changes places with the last row in use
     pub order-last : orderIn (afterRemoval e b) (countIn b - 1) ≡ endRow b e
-    unfolding orderIn dropWrites leaveWrites
+    unfolding orderIn dropWrites lossWrites leaveWrites
     order-last =
         gone-put (countIn b - 1 + 2) 8 (endRow b e) (omega (arith, last-place k)) (omega arith)
         (inr (inr (inr (inr (inr (inr (inr (inl (refl, refl, refl, omega arith)))))))))
 
     pub order-swapped : rankIn b (endRow b e) ≢ countIn b - 1 → orderIn (afterRemoval e b) (rankIn b (endRow b e)) ≡ orderIn b (countIn b - 1)
-    unfolding orderIn dropWrites leaveWrites
+    unfolding orderIn dropWrites lossWrites leaveWrites
     order-swapped n =
         gone-put (rankIn b (endRow b e) + 2) 8 (orderIn b (countIn b - 1)) (omega (arith, gone-rank k, last-place k)) (omega arith)
         (inr (inr (inr (inr (inr (inl (refl, refl, refl, omega arith)))))))
 
     pub rank-last : rankIn (afterRemoval e b) (endRow b e) ≡ countIn b - 1
-    unfolding rankIn dropWrites leaveWrites
+    unfolding rankIn dropWrites lossWrites leaveWrites
     rank-last =
         gone-put (endRow b e) 9 (countIn b - 1) (gone-low k) (omega arith)
         (inr (inr (inr (inr (inr (inr (inr (inr (inl (refl, refl, refl, omega (arith, gone-high k)))))))))))
 
     pub rank-swapped : orderIn b (countIn b - 1) ≢ endRow b e → rankIn (afterRemoval e b) (orderIn b (countIn b - 1)) ≡ rankIn b (endRow b e)
-    unfolding rankIn dropWrites leaveWrites
+    unfolding rankIn dropWrites lossWrites leaveWrites
     rank-swapped n =
         let o = g .order (countIn b - 1) (last-place k) in
         gone-put (orderIn b (countIn b - 1)) 9 (rankIn b (endRow b e)) (o .high) (omega arith)
@@ -221,10 +253,24 @@ module _ (e : End) {b : Word} (g : Good b) where
 
     -- and one palindrome less is counted
     pub count-left : countIn (afterRemoval e b) ≡ countIn b - 1
-    unfolding countIn dropWrites leaveWrites
+    unfolding countIn dropWrites lossWrites leaveWrites
     count-left =
         gone-put 0 10 (countIn b - 1) (omega arith) (omega arith)
         (inr (inr (inr (inr (inr (inr (inr (inr (inr (inl (refl, refl, refl, omega arith)))))))))))
+
+    -- which was one of its length, and may have been the longest
+    pub length-count-left : lengthCountIn (afterRemoval e b) (length (longestBefore e b)) ≡ countOfLength (ruleOf b) (length (longestBefore e b)) (removed e (lettersIn b))
+    unfolding lengthCountIn dropWrites lossWrites leaveWrites
+    length-count-left =
+        let v = longestBefore e b in
+        gone-put (length v + 1) 10 (countOfLength (ruleOf b) (length v) (removed e (lettersIn b))) (omega (arith, gone-length k)) (omega arith)
+        (inr (inr (inr (inr (inr (inr (inr (inr (inr (inr (inl (refl, refl, refl, omega (arith, gone-length k, end-cells e, end-cells (other e))))))))))))))
+
+    pub longest-length-left : longestLengthIn (afterRemoval e b) ≡ longestLength (ruleOf b) (removed e (lettersIn b))
+    unfolding longestLengthIn dropWrites lossWrites leaveWrites
+    longest-length-left =
+        gone-put 1 10 (longestLength (ruleOf b) (removed e (lettersIn b))) (omega arith) (omega arith)
+        (inr (inr (inr (inr (inr (inr (inr (inr (inr (inr (inr (inl (refl, refl, refl, omega (arith, end-cells e, end-cells (other e)))))))))))))))
 
   -- ---- every other cell of a row
 
@@ -233,9 +279,21 @@ module _ (e : End) {b : Word} (g : Good b) where
   unfolding countIn removalWrites leaveWrites
   count-kept k = cell-kept 0 10 (omega arith) (omega arith) (rw k (omega (arith, end-cells e, end-cells (other e))))
 
+  -- and so does the longest
+  pub longest-length-kept : takesOut e b ≡ false → longestLengthIn (afterRemoval e b) ≡ longestLengthIn b
+  unfolding longestLengthIn removalWrites leaveWrites
+  longest-length-kept k = cell-kept 1 10 (omega arith) (omega arith) (rw k (omega (arith, end-cells e, end-cells (other e))))
+
+  -- the number of palindromes of a length stays but for that of the one that goes
+  pub length-count-kept : (j : ℕ) → 1 ≤ j → j ≤ capacityIn b → (takesOut e b ≡ true → length (longestBefore e b) ≢ j) → lengthCountIn (afterRemoval e b) j ≡ lengthCountIn b j
+  unfolding lengthCountIn dropWrites lossWrites leaveWrites
+  length-count-kept j l h n =
+      cell-kept (j + 1) 10 (omega arith) (omega arith)
+      (either-misses (j + 1) 10 (omega (arith, end-cells e, end-cells (other e))) λ k. omega (arith, n k, edge-high (outerIn b (endRow b e)), end-cells e, end-cells (other e)))
+
   -- the fields of a row stay but for the four cells of the row that goes and the edge that leads to it
   pub row-kept : (r f : ℕ) → r < capacityIn b + 2 → f < 8 → (takesOut e b ≡ true → (endRow b e ≡ r → f < 4 → ⊥) × (innerIn b (endRow b e) ≡ r → edgeCell (outerIn b (endRow b e)) ≡ f → ⊥)) → cell (afterRemoval e b) r f ≡ cell b r f
-  unfolding dropWrites leaveWrites
+  unfolding dropWrites lossWrites leaveWrites
   row-kept r f l m n =
       cell-kept r f l (omega arith)
       (either-misses r f settled λ k.
@@ -247,11 +305,11 @@ module _ (e : End) {b : Word} (g : Good b) where
 
   -- the order stays but for the places of the two rows that change places, and so do the ranks
   pub order-kept : (i : ℕ) → i < capacityIn b → (takesOut e b ≡ true → (rankIn b (endRow b e) ≢ i) × (countIn b - 1 ≢ i)) → orderIn (afterRemoval e b) i ≡ orderIn b i
-  unfolding orderIn dropWrites leaveWrites
+  unfolding orderIn dropWrites lossWrites leaveWrites
   order-kept i l n = cell-kept (i + 2) 8 (omega arith) (omega arith) (either-misses (i + 2) 8 (omega arith) λ k. omega (arith, n k, edge-high (outerIn b (endRow b e))))
 
   pub rank-kept : (r : ℕ) → 2 ≤ r → r < capacityIn b + 2 → (takesOut e b ≡ true → (endRow b e ≢ r) × (orderIn b (countIn b - 1) ≢ r)) → rankIn (afterRemoval e b) r ≡ rankIn b r
-  unfolding rankIn dropWrites leaveWrites
+  unfolding rankIn dropWrites lossWrites leaveWrites
   rank-kept r l m n = cell-kept r 9 m (omega arith) (either-misses r 9 (omega arith) λ k. omega (arith, n k, edge-high (outerIn b (endRow b e))))
 
   -- ---- the store as a whole

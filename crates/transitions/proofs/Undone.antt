@@ -83,7 +83,7 @@ module _ (e : End) (c : ℕ) {b : Word} (g : Good b) (letter : isLetter c ≡ tr
         used = used-back;
         nodes = λ r u. sym (went .nodes r (sym (used-back r) ∙ u) ∙ came .old-row r u .1);
         order = λ i l. sym (went .order-same last-back i (rw (came .capacity) l) ∙ came .order i l);
-        spare = λ r f l m p q. sym (went .spare r f l (rw (came .capacity) m) p q ∙ came .spare r f l m p q);
+        spare = λ r l. sym (went .spare r (rw (came .capacity) l) ∙ came .spare r l);
         rest = behind b (afterRemoval e (afterAddition e c b)) (usedBytes (capacityIn b)) (sym ((rw (came .capacity) at (went .rest-same)) ∙ came .rest-same));
       }
 

@@ -7,11 +7,12 @@ use lib.ListN.{length}
 use lib.Seq.{sets}
 use Rattle.palindromes.specs.Word.{Word}
 use Rattle.palindromes.specs.Place.{stands}
+use Rattle.palindromes.specs.Record.{countOfLength, longestLength}
 use Rattle.palindromes.specs.End.{End, other, atRight, added, letterAt, longestAt}
 use Rattle.palindromes.specs.Node.{spelt, lengthOf, linkOf, innerOf}
 use Rattle.store.specs.Layout.{capacityIn, sizeIn, countIn, endCell, endRow, edgeCell, lettersAt, lettersIn}
 use Rattle.store.specs.Good.{ruleOf}
-use Rattle.store.specs.Writes.{Write, write, writes, rowWrites}
+use Rattle.store.specs.Writes.{Write, write, writes, rowWrites, carriedWrites}
 use Rattle.transitions.specs.Rows.{rowOf, freeRow}
 
 -- the longest repeat at the call's end, read after the addition
@@ -40,8 +41,14 @@ settleWrites e b v q =
     ∷ write 1 (endCell (other e)) (cond (eqb (length v) (sizeIn b + 1)) q (endRow b (other e)))
     ∷ []
 
+-- 02 (ii) "true after every accepted store call": how many repeats then have the new one's length, and the largest length
+unfoldable pub gainWrites : End → ℕ → Word → List Write
+gainWrites e c b =
+    carriedWrites (length (longestAfter e c b)) (countOfLength (ruleOf b) (length (longestAfter e c b)) (added e c (lettersIn b)))
+    (longestLength (ruleOf b) (added e c (lettersIn b)))
+
 unfoldable pub additionWrites : End → ℕ → Word → List Write
-additionWrites e c b = cond (bringsIn e c b) (hangWrites b (longestAfter e c b)) [] ++ settleWrites e b (longestAfter e c b) (rowAfter e c b)
+additionWrites e c b = cond (bringsIn e c b) (hangWrites b (longestAfter e c b) ++ gainWrites e c b) [] ++ settleWrites e b (longestAfter e c b) (rowAfter e c b)
 
 -- the store after the addition
 unfoldable pub afterAddition : End → ℕ → Word → Word

@@ -8,11 +8,12 @@ use lib.ListN.{length}
 use lib.Seq.{sets}
 use Rattle.palindromes.specs.Word.{Word}
 use Rattle.palindromes.specs.Place.{stands}
+use Rattle.palindromes.specs.Record.{countOfLength, longestLength}
 use Rattle.palindromes.specs.End.{End, other, removed, longestAt}
 use Rattle.palindromes.specs.Node.{spelt}
 use Rattle.store.specs.Layout.{capacityIn, sizeIn, countIn, endCell, endRow, linkIn, innerIn, outerIn, edgeCell, orderIn, rankIn, lettersAt, lettersIn}
 use Rattle.store.specs.Good.{ruleOf}
-use Rattle.store.specs.Writes.{Write, write, writes, rowWrites}
+use Rattle.store.specs.Writes.{Write, write, writes, rowWrites, carriedWrites}
 use Rattle.transitions.specs.Rows.{rowOf}
 
 -- the longest repeat at the call's end, read before the removal
@@ -43,8 +44,14 @@ leaveWrites e b =
     ∷ write 1 (endCell (other e)) (cond (eqb (length (longestBefore e b)) (sizeIn b)) (linkIn b (endRow b e)) (endRow b (other e)))
     ∷ []
 
+-- 02 (ii) "true after every accepted store call": how many repeats have the length of the one that went, and the largest length
+unfoldable pub lossWrites : End → Word → List Write
+lossWrites e b =
+    carriedWrites (length (longestBefore e b)) (countOfLength (ruleOf b) (length (longestBefore e b)) (removed e (lettersIn b)))
+    (longestLength (ruleOf b) (removed e (lettersIn b)))
+
 unfoldable pub removalWrites : End → Word → List Write
-removalWrites e b = cond (takesOut e b) (dropWrites b (endRow b e)) [] ++ leaveWrites e b
+removalWrites e b = cond (takesOut e b) (dropWrites b (endRow b e) ++ lossWrites e b) [] ++ leaveWrites e b
 
 -- the store after the removal: the vacated letter place is zero
 unfoldable pub afterRemoval : End → Word → Word

@@ -12,9 +12,9 @@ use Rattle.audit_rows.specs.Rows.{RowsRight}
 use Rattle.audit_tour.specs.declared.Visit.the-variants.{Next, Broken}
 use Rattle.audit_fixed.proofs.Decided.{holds, fails, carried}
 use Rattle.audit_fixed.proofs.Parts.{good-roots}
-use Rattle.audit_order.proofs.Order.{good-order}
 use Rattle.audit_tour.proofs.Marks.{blank}
 use Rattle.audit_tour.proofs.Letter.{led}
+use Rattle.audit_lengths.proofs.Lengths.{good-lengths}
 use Rattle.audit_rows.proofs.Rows.{good-rows, good-ends}
 use Rattle.audit.proofs.Whole.{passed-good}
 use Rattle.audit.proofs.is_good.Statement.{statement}
@@ -54,37 +54,57 @@ order : (c : tie.Else5) → OrderRight (store c)
 order c = holds _ (c .before .order-right .result) (c .before .order-right .ensures) (c .if5 .left)
 
 replay-requires : tie.Need-replay-requires
-replay-requires c κs = let f = c .before in (record { sized = sizes (past-sizes f) .sized; letters = letters f; roots = roots f }, blank)
+replay-requires c κs = let f = c .before .before in (record { sized = sizes (past-sizes f) .sized; letters = letters f; roots = roots f }, (blank, blank))
 
 -- ---- the tour and the tests after it
 
 returns-6 : tie.Need-returns-6
 returns-6 c =
-    let v = c .before .before .before in
-    let b = store (v .before .before) in
-    led b (v .replay .last .1 .0) (lettersIn b) (v .replay .result) Broken (v .replay .ensures) (c .enum-told .given .1)
+    let v = c .before .before .before .before in
+    let b = store (v .before .before .before) in
+    led b (v .replay .last .1 .0) (v .replay .last .1 .1 .0) (lettersIn b) (v .replay .result) Broken (v .replay .ensures) (c .enum-told .given .1)
 
 abbrev past-tour : tie.After-known-told → tie.After-replay
-past-tour c = c .before .before .before .before
+past-tour c = c .before .before .before .before .before
 
 abbrev past-order : tie.After-known-told → tie.Else5
-past-order c = past-tour c .before .before
+past-order c = past-tour c .before .before .before
+
+-- the marks and the lengths that it leaves
+abbrev marks : tie.After-known-told → Word
+marks c = past-tour c .replay .last .1 .0
+
+abbrev lengths : tie.After-known-told → Word
+lengths c = past-tour c .replay .last .1 .1 .0
 
 -- all letters are read
-toured : (c : tie.After-known-told) → Toured (store (past-order c)) (past-tour c .replay .last .1 .0) (lettersIn (store (past-order c))) (c .before .tour .given .0 .0)
+toured : (c : tie.After-known-told) → Toured (store (past-order c)) (marks c) (lengths c) (lettersIn (store (past-order c))) (c .before .tour .given .0 .0)
 toured c =
     let v = past-tour c .replay in
     let b = store (past-order c) in
-    led b (v .last .1 .0) (lettersIn b) (v .result) (Next (c .before .tour .given .0 .0)) (v .ensures) (c .before .tour .given .1)
+    led b (marks c) (lengths c) (lettersIn b) (v .result) (Next (c .before .tour .given .0 .0)) (v .ensures) (c .before .tour .given .1)
+
+abbrev past-ends : tie.Else6 → tie.After-known-told
+past-ends c = c .before .before
+
+abbrev past-lengths : tie.Else7 → tie.Else6
+past-lengths c = c .before .before .before
 
 returns-8 : tie.Need-returns-8
-returns-8 c =
-    let e = c .before .before in
-    let t = e .before .before in
+returns-8 c g =
+    let t = past-ends (c .before .before .before) in
+    fails _ (c .before .lengths-right .result) (c .before .lengths-right .ensures) (c .if7 .taken) (good-lengths (g .sized) (toured t .lengths) g)
+
+returns-9 : tie.Need-returns-9
+returns-9 c =
+    let l = c .before .before in
+    let e = past-lengths l in
+    let t = past-ends e in
     let f = past-order t in
     let ends = holds _ (e .before .ends-right .result) (e .before .ends-right .ensures) (e .if6 .left) in
-    carried (RowsRight (store f) (past-tour t .replay .last .1 .0)) (Good (store f)) (c .rows-right .result) (c .rows-right .ensures)
-    (λ rows. passed-good (toured t) rows (sizes (past-sizes f)) (letters f) (places f) (roots f) (order f) ends)
+    let carries = holds _ (l .before .lengths-right .result) (l .before .lengths-right .ensures) (l .if7 .left) in
+    carried (RowsRight (store f) (marks t)) (Good (store f)) (c .rows-right .result) (c .rows-right .ensures)
+    (λ rows. passed-good (toured t) rows (sizes (past-sizes f)) (letters f) (places f) (roots f) (order f) ends carries)
     (λ g. good-rows g (toured t))
 
 pub is-good-spec : {M : Type 1} → statement M
@@ -100,7 +120,8 @@ is-good-spec =
     (λ c κs. sizes (c .before .before .before .before) .sized)
     (λ c g. fails _ (c .before .roots-right .result) (c .before .roots-right .ensures) (c .if4 .taken) (good-roots g))
     (λ c κs. sizes (c .before .before .before .before .before .before) .sized)
-    (λ c g. fails _ (c .before .order-right .result) (c .before .order-right .ensures) (c .if5 .taken) (good-order g))
+    (λ c g. fails _ (c .before .order-right .result) (c .before .order-right .ensures) (c .if5 .taken) (g .order))
+    (λ c. search needs)
     (λ c. search needs)
     replay-requires
     (λ c. search needs)
@@ -109,5 +130,8 @@ is-good-spec =
     (λ c κs. sizes (past-sizes (past-order c)) .sized)
     (λ c g. fails _ (c .before .ends-right .result) (c .before .ends-right .ensures) (c .if6 .taken) (good-ends g (toured (c .before .before))))
     (λ c. search needs)
-    (λ c κs. let t = c .before .before .before in (sizes (past-sizes (past-order t)) .sized, toured t .long))
-    returns-8)
+    (λ c κs. let t = past-ends (c .before) in (sizes (past-sizes (past-order t)) .sized, toured t .lengths .long))
+    returns-8
+    (λ c. search needs)
+    (λ c κs. let t = past-ends (past-lengths (c .before)) in (sizes (past-sizes (past-order t)) .sized, toured t .long))
+    returns-9)

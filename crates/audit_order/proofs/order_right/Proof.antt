@@ -7,14 +7,14 @@ use mathlib.Core.Path.{_≡_}
 use Rattle.palindromes.specs.Word.{Word}
 use Rattle.store.specs.Layout.{capacityIn}
 use Rattle.walk.proofs.Stores.{header-fits}
-use Rattle.audit_order.specs.Order.{PlaceRight}
+use Rattle.store.specs.Good.{OrderIs}
 use Rattle.audit_fixed.proofs.Decided.{holds, fails}
 use Rattle.audit_order.proofs.order_right.Statement.{statement}
 use Rattle.audit_order.proofs.order_right.Tie as tie
 
 record Passed (b : Word) (capacity i : ℕ) : Type 0 where
   capacity-is : capacity ≡ capacityIn b
-  so-far : (j : ℕ) → j < i → PlaceRight b j
+  so-far : (j : ℕ) → j < i → OrderIs b j
 
 abbrev Inv-loop : tie.InvT-loop
 Inv-loop b capacity i₀ i = Passed b capacity i
@@ -32,26 +32,17 @@ place-below c = omega (arith, c .loop-test .taken, c .before .loop .inv .capacit
 returns : tie.Need-returns Inv-loop μ-loop
 returns c a =
     let l = c .before .before in
-    fails _ (c .before .order-holds .result) (c .before .order-holds .ensures) (c .if1 .taken) (a (l .before .loop .i) (place-below l) .order)
-
-returns-2 : tie.Need-returns-2 Inv-loop μ-loop
-returns-2 c a =
-    let l = c .before .before .before .before in
-    fails _ (c .before .rank-holds .result) (c .before .rank-holds .ensures) (c .if2 .taken) (a (l .before .loop .i) (place-below l) .rank)
+    fails _ (c .before .order-holds .result) (c .before .order-holds .ensures) (c .if1 .taken) (a (l .before .loop .i) (place-below l))
 
 loop-again : tie.Need-loop-again Inv-loop μ-loop
 loop-again c =
-    let first = c .before .before in
-    let l = first .before .before in
+    let l = c .before .before in
     let h = l .before .loop .inv in
     record {
       capacity-is = h .capacity-is;
       so-far =
-          below-more (PlaceRight (entry l .args .b .now)) (l .before .loop .i) (h .so-far)
-          (record {
-            order = holds _ (first .before .order-holds .result) (first .before .order-holds .ensures) (first .if1 .left);
-            rank = holds _ (c .before .rank-holds .result) (c .before .rank-holds .ensures) (c .if2 .left);
-          });
+          below-more (OrderIs (entry l .args .b .now)) (l .before .loop .i) (h .so-far)
+          (holds _ (c .before .order-holds .result) (c .before .order-holds .ensures) (c .if1 .left));
     }
 
 pub order-right-spec : {M : Type 1} → statement M
@@ -64,9 +55,6 @@ order-right-spec =
     (λ c. record { capacity-is = c .capacity .ensures .0; so-far = λ j l. absurd (omega arith) })
     (λ c κs. (entry c .pre, place-below c))
     returns
-    (λ c. search needs)
-    (λ c κs. (entry (c .before .before) .pre, omega (arith, place-below (c .before .before))))
-    returns-2
     (λ c. search needs)
     (λ c. omega arith)
     loop-again

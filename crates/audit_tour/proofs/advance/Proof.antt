@@ -29,31 +29,32 @@ module _ {b : Word} {f : Frame} (h : Frames b f) (k : ℕ) where
 
 -- the entry, from behind the walk
 abbrev entry : tie.After-walk → tie.Start
-entry c = c .before .before .before .before .before
+entry c = c .before .before .before .before .before .before
 
 -- the partner of the letter
-wanted : (c : tie.After-partner-in) → c .partner-in .result ≡ partnerIn (c .before .before .before .before .args .f) (c .before .seen .result)
-wanted c = c .partner-in .ensures ∙ c .before .before .before .before .pre .0 .1 (c .before .seen .result) (search needs)
+wanted : (c : tie.After-partner-in) → c .partner-in .result ≡ partnerIn (c .before .before .before .before .before .args .f) (c .before .seen .result)
+wanted c = c .partner-in .ensures ∙ c .before .before .before .before .before .pre .0 .1 (c .before .seen .result) (search needs)
 
 seen-requires : tie.Need-seen-requires
 seen-requires c κs =
-    let s = c .before .before in
+    let s = c .before .before .before in
     let w = framed-within (s .pre .0 .0) (s .pre .1 .ready .sized) (s .args .k + 1) (omega (arith, s .pre .1 .more)) in
     ((w .letters, omega (arith, w .read)), s .pre .0 .1)
 
 walk-requires : tie.Need-walk-requires
 walk-requires c κs =
-    let s = c .before .before .before .before in
+    let s = c .before .before .before .before .before in
     let r = s .pre .1 in
     (framed-within (s .pre .0 .0) (r .ready .sized) (s .args .k) (omega (arith, r .more)), (met-chain r (s .args .tour .row) (r .toured .row-met), wanted c))
 
 enter-requires : tie.Need-enter-requires
 enter-requires c κs =
-    let w = c .before .before .before .before in
+    let found = c .before .before .before in
+    let w = found .before .before in
     let p = entry w .pre in
     let e = letter (p .0 .0) (entry w .args .k) (w .before .before .seen .ensures) in
     let m = met (p .0 .0) (entry w .args .k) (w .walk .ensures) in
-    ((p .0 .0, wanted (w .before)), (p .1, tour-grows (p .1) e m (c .before .before .found .given .0 .0) (c .before .before .found .given .1)))
+    ((p .0 .0, wanted (w .before)), (p .1, tour-grows (p .1) e m (found .found .given .0 .0) (found .found .given .1)))
 
 returns-2 : tie.Need-returns-2
 returns-2 c =
@@ -71,6 +72,7 @@ advance-spec =
     walk-requires
     (λ c. search needs)
     enter-requires
+    (λ c. search needs)
     (λ c. search needs)
     (λ c. search needs)
     (λ c. search needs)

@@ -4,6 +4,7 @@ use native.Mathlib.Omega.{arith}
 use borrow.Author.Needs.{needs}
 use borrow.Author.Tests.{not-true, not-false}
 use mathlib.Core.Path.{subst}
+use mathlib.Core.Bool.{true}
 use lib.ListN.{length}
 use Rattle.palindromes.specs.Word.{Word}
 use Rattle.walk.proofs.Stores.{rows-fit}
@@ -12,11 +13,11 @@ use Rattle.audit_fixed.proofs.Decided.{holds, fails}
 use Rattle.audit_edge.specs.Edge.{PointsBack, NewRow}
 use Rattle.audit_tour.specs.Tour.{Reading}
 use Rattle.audit_tour.specs.declared.Tour.{Tour}
-use Rattle.audit_tour.proofs.Letter.{met-most, grown-walkable, tour-old, tour-new, good-back, good-new}
+use Rattle.audit_tour.proofs.Letter.{met-most, grown-walkable, new-countable, tour-old, tour-new, good-back, good-new}
 use Rattle.audit_tour.proofs.enter.Statement.{statement}
 use Rattle.audit_tour.proofs.enter.Tie as tie
 
-module _ {b marks : Word} {k : ℕ} {t : Tour} (s : Reading b marks k t) where
+module _ {b marks carried : Word} {k : ℕ} {t : Tour} (s : Reading b marks carried k t) where
   -- numbers of letters and of rows are small
   k-small : k < 1024
   k-small = omega (arith, s .more, s .ready .sized .letters-fit, s .ready .sized .at-most)
@@ -30,7 +31,7 @@ module _ {b marks : Word} {k : ℕ} {t : Tour} (s : Reading b marks k t) where
 
 -- the entry, from behind the first test, and what is known there: the row names the edge
 abbrev from-back : tie.Else1 → tie.Start
-from-back c = c .before .before .before .before .before
+from-back c = c .before .before .before .before .before .before
 
 named : (c : tie.Else1) → PointsBack (from-back c .args .b .now) (from-back c .args .u) (from-back c .args .d) (c .before .before .edge-of .result)
 named c = holds _ (c .before .points-back .result) (c .before .points-back .ensures) (c .if1 .left)
@@ -44,12 +45,13 @@ back-of-new c = back (c .before .before)
 
 edge-of-requires : tie.Need-edge-of-requires
 edge-of-requires c κs =
-    let p = c .before .before .pre in
-    rows-fit (p .1 .0 .ready .sized) (c .before .before .args .u) (p .1 .0 .toured .used (c .before .before .args .u) (p .1 .1 .met))
+    let s = c .before .before .before in
+    let p = s .pre in
+    rows-fit (p .1 .0 .ready .sized) (s .args .u) (p .1 .0 .toured .used (s .args .u) (p .1 .1 .met))
 
 returns : tie.Need-returns
 returns c g =
-    let p = c .before .before .before .before .before .pre in
+    let p = c .before .before .before .before .before .before .pre in
     fails _ (c .before .points-back .result) (c .before .points-back .ensures) (c .if1 .taken) (good-back (p .1 .0) (p .1 .1) g (c .before .before .edge-of .ensures .0))
 
 left-after-requires : tie.Need-left-after-requires
@@ -80,32 +82,44 @@ returns-3 c g =
     let new = c .before .new-row-right in
     good-new (s .pre .1 .0) (s .pre .1 .1) g (q .ensures .0) (subst (NewRow (a .b .now) (a .k) (a .d) (a .u) (q .result)) (not-true (new .result) (c .if3 .taken)) (new .ensures))
 
+-- the row is right
+right : (c : tie.Else3) → NewRow (from-back (back-of-new c) .args .b .now) (from-back (back-of-new c) .args .k) (from-back (back-of-new c) .args .d) (from-back (back-of-new c) .args .u) (back-of-new c .before .before .edge-of .result) true
+right c =
+    let first = back-of-new c in
+    let a = from-back first .args in
+    let new = c .before .new-row-right in
+    subst (NewRow (a .b .now) (a .k) (a .d) (a .u) (first .before .before .edge-of .result)) (not-false (new .result) (c .if3 .left)) (new .ensures)
+
 slice-write-marks : tie.Need-slice-write-marks
 slice-write-marks c =
     let first = back-of-new c in
     mark-of (from-back first .pre .1 .0) (first .before .before .edge-of .result) (named first)
 
-add-met : tie.Need-add-t17
-add-met c = omega (arith, met-small (from-back (back-of-new (c .before)) .pre .1 .0))
+count-row-requires : tie.Need-count-row-requires
+count-row-requires c κs =
+    let first = back-of-new (c .before) in
+    let p = from-back first .pre in
+    new-countable (p .1 .0) (p .1 .1) (named first) (right (c .before))
+
+add-met : tie.Need-add-t21
+add-met c = omega (arith, met-small (from-back (back-of-new (c .before .before .before .before .before)) .pre .1 .0))
 
 returns-4 : tie.Need-returns-4
 returns-4 c =
-    let third = c .before in
+    let counted = c .before .before .before in
+    let third = counted .before .before in
     let second = third .before .before in
     let first = back second in
     let s = from-back first in
-    let a = s .args in
     let q = first .before .before .edge-of in
-    let new = third .before .new-row-right in
-    let r = subst (NewRow (a .b .now) (a .k) (a .d) (a .u) (q .result)) (not-false (new .result) (third .if3 .left)) (new .ensures) in
-    tour-new (s .pre .1 .0) (s .pre .1 .1) (named first) (q .ensures .0) (second .if2 .left) r (second .before .before .left-after .ensures)
+    tour-new (s .pre .1 .0) (s .pre .1 .1) (named first) (q .ensures .0) (second .if2 .left) (right third) (second .before .before .left-after .ensures) (counted .count-row .kept .1 .0) (counted .count-row .ensures)
 
 pub enter-spec : {M : Type 1} → statement M
 enter-spec =
     tie.close
     (tie.spec
     edge-of-requires
-    (λ c κs. c .before .before .before .pre .1 .0 .ready .sized)
+    (λ c κs. c .before .before .before .before .pre .1 .0 .ready .sized)
     returns
     left-after-requires
     slice-read-if2
@@ -113,6 +127,8 @@ enter-spec =
     new-row-right-requires
     returns-3
     slice-write-marks
+    count-row-requires
     add-met
+    (λ c. search needs)
     (λ c. search needs)
     returns-4)

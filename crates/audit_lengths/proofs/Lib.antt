@@ -1,0 +1,3 @@
+-- laws of the lengths that are counted
+pub mod Lengths
+pub mod Counting
