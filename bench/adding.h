@@ -6,17 +6,26 @@
 #include "links.h"
 #include "twin.h"
 
+/* A palindrome comes: one more has its length, which may be the largest now. */
+static inline void count_in(uint8_t *b, unsigned stored)
+{
+    put(b, stored, CARRIED, get(b, stored, CARRIED) + 1);
+    if (longest_of(b) < stored - 1)
+        set_longest(b, stored - 1);
+}
+
 /* The palindrome that d makes around row u stood nowhere: writes its row, the first free one. */
 static inline unsigned hang(uint8_t *b, struct view v, unsigned u, uint8_t d)
 {
-    unsigned count = count_of(b), row = get(b, count + 2, ORDER);
+    unsigned count = count_of(b), row = get(b, count + 2, ORDER), stored = get(b, u, LENGTH) + 2;
     unsigned link = u == IMAGINARY ? (unsigned)EMPTY : step(b, v, size_of(b), get(b, u, LINK), d);
-    put(b, row, LENGTH, get(b, u, LENGTH) + 2);
+    put(b, row, LENGTH, stored);
     put(b, row, LINK, link);
     put(b, row, INNER, u);
     put(b, row, OUTER, d);
     put_edge(b, u, d, row);
     put(b, 0, 10, count + 1);
+    count_in(b, stored);
     return row;
 }
 

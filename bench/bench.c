@@ -1,10 +1,10 @@
 /* The benchmark: the library beside its C twin, in one run, on five words and four sizes in either reading, inverted
- * records beside plain ones, and turns beside length.
+ * records beside plain ones, and turns and the longest length beside length.
  *
  * Prints ratios, library over twin, since times of one machine say little; a ratio above the limit is marked with !.
  * The argument names the file that gets the drawing of growth. Ends with 1 if a tested call at 1,000 letters, a fill or
- * reading FASTA is above its limit, or if at 1,000 letters an inverted record beside a plain one, or a turn beside length,
- * takes longer than it may. */
+ * reading FASTA is above its limit, or if at 1,000 letters an inverted record beside a plain one, or a turn or the longest
+ * length beside length, takes longer than it may. */
 #include <math.h>
 
 #include "calls.h"
@@ -45,19 +45,27 @@ static int line(const char *name, double limit, const struct pair times[WORDS])
     return above;
 }
 
-/* One line that holds the times of some work on five words against those of other work: the ratio in the library, and in the
- * twin; how many of the library's are above the limit. */
-static int against(const char *name, double limit, const struct pair times[WORDS], const struct pair others[WORDS])
+/* One line of ratios on five words, in the library and in the twin, to so many places; how many of the library's are above
+ * the limit. */
+static int ratios(const char *name, double limit, int places, const struct pair ratio[WORDS])
 {
     int above = 0;
     printf("  %-24s", name);
     for (int w = 0; w < WORDS; w++) {
-        double ratio = times[w].library / others[w].library;
-        above += ratio > limit;
-        printf("%6.2f%s%5.2f ", ratio, mark(ratio, limit), times[w].twin / others[w].twin);
+        above += ratio[w].library > limit;
+        printf("%6.*f%s%5.*f ", places, ratio[w].library, mark(ratio[w].library, limit), places, ratio[w].twin);
     }
     puts("");
     return above;
+}
+
+/* One line that holds the times of some work on five words against those of other work. */
+static int against(const char *name, double limit, const struct pair times[WORDS], const struct pair others[WORDS])
+{
+    struct pair ratio[WORDS];
+    for (int w = 0; w < WORDS; w++)
+        ratio[w] = (struct pair){times[w].library / others[w].library, times[w].twin / others[w].twin};
+    return ratios(name, limit, 2, ratio);
 }
 
 /* Whether a call is timed on a word in a reading. The words that are made for the other reading are for turns, and for
@@ -159,6 +167,23 @@ static int inverted_beside_plain(void)
         for (int w = 0; w < WORDS; w++)
             plain[w] = least[c == CALL_OPEN_INVERTED ? (int)CALL_OPEN : c][PLAIN][plain_match(w)];
         above += against(calls[c].name, READING_LIMIT, &least[c][INVERTED][WORDS], plain);
+    }
+    return above;
+}
+
+/* The longest length beside length on every word in its reading; how many ratios of the library are above the limit. */
+static int longest_length_beside_length(void)
+{
+    static const int questions[2] = {CALL_LONGEST_LENGTH, CALL_LENGTH};
+    int above = 0;
+    printf("\nThe longest length beside length, each the test and one read: time of the one over that of the other, in the "
+           "library and in the twin; ! where above %.2f\n", LONGEST_LENGTH_LIMIT);
+    for (int reading = PLAIN; reading <= INVERTED; reading++) {
+        struct pair ratio[WORDS];
+        for (int w = 0; w < WORDS; w++)
+            ratio[w] = time_ratio(questions, reading * WORDS + w, reading, LARGEST);
+        heading(reading == PLAIN ? "1000 letters, plain" : "1000 letters, inverted", reading);
+        above += ratios(calls[CALL_LONGEST_LENGTH].name, LONGEST_LENGTH_LIMIT, 3, ratio);
     }
     return above;
 }
@@ -276,6 +301,7 @@ int main(int count, char **arguments)
             test[i][w] = least[TEST_ALONE][PLAIN][w].library;
     }
     above += inverted_beside_plain();
+    above += longest_length_beside_length();
     against_floor(test);
     against_surfaces();
     above += without_a_test();

@@ -1,12 +1,15 @@
 /* Today's library beside that of another revision, in one run: every call on five words of 1,000 letters, the two in turn,
- * on records that each made with its own calls, plain ones and, where both can open such, inverted ones. A call that only
- * one of them has is left out and told. The smallest of many samples counts. Where a library happens to lie in memory seems
- * to move a short call by several per cent, so several copies of each are loaded, a round on each pair. Prints ratios, today
- * over the other, for each call and word and for each call over the five words of a reading (the geometric mean), and last
- * the largest of these: that one figure says whether a call got slower.
+ * on records that each made with its own calls, plain ones and, where both can open such, inverted ones; and the fill with
+ * no test between additions. What only one of them has is left out and told. The smallest of many samples counts. Where a
+ * library happens to lie in memory seems to move a short call by several per cent, so several copies of each are loaded, a
+ * round on each pair. Prints ratios, today over the other, for each call and word and for each call over the five words of a
+ * reading (the geometric mean), and last the largest of these, the fill's aside: that one figure says whether a call got
+ * slower.
  *
- *     beside FOLDER [LIMIT]        FOLDER/today-1.so, FOLDER/other-1.so, today-2.so and so on, COPIES of each;
- *                                  ends with 1 if that figure is above the limit, or if a call was refused */
+ *     beside FOLDER [LIMIT [FILL]]     FOLDER/today-1.so, FOLDER/other-1.so, today-2.so and so on, COPIES of each, and the
+ *                                      same of the crate bench_fill, today-fill-1.so and so on; ends with 1 if that figure
+ *                                      is above the limit, or the fill's above FILL, or if a call was refused */
+#include <dlfcn.h>
 #include <float.h>
 #include <math.h>
 #include <stdio.h>
@@ -18,13 +21,17 @@
 #include "words.h"
 
 enum { LETTERS = 1000, CAPACITY = LETTERS + 24, COPIES = 8, ROUNDS = 8 * COPIES, SAMPLES = 60 };
-enum { FASTA = CALLS, MASKED, ALL };
+enum { FASTA = CALLS, MASKED, FILL, ALL };
+
+typedef uint64_t fill(uint8_t *store, size_t length, const uint8_t *letters, size_t n);
 
 static library copies[COPIES][2], *sides = copies[0];
+static fill *fill_copies[COPIES][2], **fills = fill_copies[0];
 static unsigned char has[2][LIBRARY_CALLS];
 static struct sitting records[2][BOTH_WORDS], s;
 static uint8_t fasta_texts[2][2 * LETTERS + 6], fasta_text[2 * LETTERS + 6];
 static size_t fasta_length;
+static uint8_t fill_letters[LETTERS];
 static int64_t least[ALL][BOTH_WORDS][2];
 static bool refused[ALL];
 static volatile uint64_t sink;
@@ -50,20 +57,30 @@ static void make_record(struct sitting *to, const library *by, int word)
     to->row = mirror_row_of(by->find(to->store, to->length, to->piece, to->piece_length));
 }
 
+static bool reads_fasta(int call) { return call == FASTA || call == MASKED; }
+
 /* Opening and reading FASTA are short, and can be done again at once. */
-static int times_of(int call) { return call <= CALL_OPEN_INVERTED || call >= FASTA ? 10 : 1; }
+static int times_of(int call) { return call <= CALL_OPEN_INVERTED || reads_fasta(call) ? 10 : 1; }
+
+/* What a call answers; a fill answers the number of letters, and 0 where it did nothing. */
+static uint64_t run(int call, int side)
+{
+    if (call == FILL)
+        return fills[side](s.store, s.length, fill_letters, LETTERS) == LETTERS ? 0 : 1;
+    return reads_fasta(call) ? measured->fasta(fasta_text, fasta_length, s.out, s.out_length) : calls[call].library(&s);
+}
 
 /* One call of one library. Both work in the same bytes, which hold that library's record or text before each sample. */
 static int64_t sample(int call, int word, int side)
 {
     measured = &sides[side];
-    if (call >= FASTA)
+    if (reads_fasta(call))
         memcpy(fasta_text, fasta_texts[side], fasta_length);
     else
         memcpy(s.store, records[side][word].store, s.length);
     int64_t from = now_ns();
     for (int i = times_of(call); i > 0; i--)
-        sink = call >= FASTA ? measured->fasta(fasta_text, fasta_length, s.out, s.out_length) : calls[call].library(&s);
+        sink = run(call, side);
     int64_t took = now_ns() - from;
     refused[call] |= (sink & 0xff) != 0;
     return took;
@@ -85,8 +102,10 @@ static void make_texts(int call, int word)
 static void measure(int call, int word)
 {
     s = records[0][word];
-    if (call >= FASTA)
+    if (reads_fasta(call))
         make_texts(call, word);
+    if (call == FILL)
+        make_word(word, fill_letters, LETTERS);
     for (int i = 0; i < SAMPLES; i++)
         for (int turn = 0; turn < 2; turn++) {
             int side = (i + turn) % 2;
@@ -97,10 +116,16 @@ static void measure(int call, int word)
 }
 
 /* calls[] has the calls that take a store */
-static const char *name_of(int call) { return call == MASKED ? "fasta, mixed case" : call == FASTA ? "fasta" : calls[call].name; }
+static const char *name_of(int call)
+{
+    static const char *const others[] = {"fasta", "fasta, mixed case", "fill"};
+    return call < CALLS ? calls[call].name : others[call - CALLS];
+}
 
 static bool in_both(int call)
 {
+    if (call == FILL)
+        return fills[0] && fills[1];
     unsigned which = library_call(name_of(call == MASKED ? FASTA : call));
     return has[0][which] && has[1][which];
 }
@@ -108,8 +133,8 @@ static bool in_both(int call)
 /* How many readings both libraries have: the first version opened plain records alone. */
 static int readings(void) { return in_both(CALL_OPEN_INVERTED) ? 2 : 1; }
 
-/* Whether a call is timed on the words of a reading: its own opening, and FASTA, which takes no record, once. */
-static bool timed(int call, int reading) { return in_both(call) && !opens_otherwise(call, reading) && !(call >= FASTA && reading); }
+/* Whether a call is timed on the words of a reading: its own opening, and what takes no record, once. */
+static bool timed(int call, int reading) { return in_both(call) && !opens_otherwise(call, reading) && !(call >= CALLS && reading); }
 
 /* One line for a call: microseconds and ratio on each word of a reading, and the ratio over all five. */
 static double print_call(int call, int reading, int64_t cost)
@@ -126,12 +151,22 @@ static double print_call(int call, int reading, int64_t cost)
     return refused[call] ? INFINITY : over_all;
 }
 
-static void heading(int reading)
+static void heading(const char *title, int reading)
 {
-    printf("\n%-26s", reading ? "inverted records" : "plain records");
+    printf("\n%-26s", title);
     for (int word = reading * WORDS; word < (reading + 1) * WORDS; word++)
         printf("%13s", word_names[word]);
     printf("%10s\n", "all");
+}
+
+/* The fill, which is no call of the library: its ratio over all words, 0 where only one of the two has it. */
+static double print_fill(void)
+{
+    heading("no test between letters", 0);
+    if (in_both(FILL))
+        return print_call(FILL, 0, clock_cost());
+    printf("  %-24s  not in both\n", name_of(FILL));
+    return 0;
 }
 
 /* Every call; the largest ratio over all words of a reading, which is told with its call. */
@@ -141,18 +176,25 @@ static double print_calls(void)
     int64_t cost = clock_cost();
     int of = 0, read = 0;
     for (int reading = 0; reading < readings(); reading++) {
-        heading(reading);
-        for (int call = 0; call < ALL; call++) {
+        heading(reading ? "inverted records" : "plain records", reading);
+        for (int call = 0; call < FILL; call++) {
             double ratio = timed(call, reading) ? print_call(call, reading, cost) : 0;
             if (ratio > largest)
                 largest = ratio, of = call, read = reading;
         }
     }
-    for (int call = 0; call < ALL; call++)
+    for (int call = 0; call < FILL; call++)
         if (!in_both(call))
             printf("  %-24s  not in both\n", name_of(call));
     printf("\nThe largest ratio of a call over all words is %.3f (%s%s)\n", largest, name_of(of), read ? ", inverted" : "");
     return largest;
+}
+
+/* The fill of a copy of bench_fill, NULL where there is none. */
+static fill *load_fill(const char *path)
+{
+    void *handle = dlopen(path, RTLD_NOW | RTLD_LOCAL);
+    return handle ? (fill *)dlsym(handle, "bench_fill") : NULL;
 }
 
 /* Loads the copies, and makes the records. */
@@ -160,28 +202,35 @@ static void load(const char *folder)
 {
     char path[4096];
     for (int i = 0; i < 2 * COPIES; i++) {
-        snprintf(path, sizeof path, "%s/%s-%d.so", folder, i % 2 ? "other" : "today", i / 2 + 1);
+        const char *side = i % 2 ? "other" : "today";
+        snprintf(path, sizeof path, "%s/%s-%d.so", folder, side, i / 2 + 1);
         library_load(&copies[i / 2][i % 2], path, has[i % 2]);
+        snprintf(path, sizeof path, "%s/%s-fill-%d.so", folder, side, i / 2 + 1);
+        fill_copies[i / 2][i % 2] = load_fill(path);
     }
     for (int i = 0; i < 2 * WORDS * readings(); i++)
         make_record(&records[i % 2][i / 2], &sides[i % 2], i / 2);
 }
 
+/* The limit that an argument gives; none is never reached. */
+static double limit(int count, char **arguments, int at) { return at < count ? strtod(arguments[at], NULL) : DBL_MAX; }
+
 int main(int count, char **arguments)
 {
-    if (count < 2 || count > 3) {
-        fprintf(stderr, "usage: beside FOLDER [LIMIT]\n");
+    if (count < 2 || count > 4) {
+        fprintf(stderr, "usage: beside FOLDER [LIMIT [FILL]]\n");
         return 2;
     }
     load(arguments[1]);
     for (int round = 0; round < ROUNDS; round++) {
         sides = copies[round % COPIES];
+        fills = fill_copies[round % COPIES];
         for (int call = 0; call < ALL; call++)
             for (int word = 0; word < WORDS * readings(); word++)
                 if (timed(call, word_reading(word)))
                     measure(call, word);
     }
     puts("Calls at 1,000 letters: microseconds of today's library, and their ratio to those of the other revision");
-    double largest = print_calls();
-    return largest > (count == 3 ? strtod(arguments[2], NULL) : DBL_MAX);
+    double filled = print_fill(), largest = print_calls();
+    return largest > limit(count, arguments, 2) || filled > limit(count, arguments, 3);
 }

@@ -28,6 +28,7 @@ BOTH(length, (s->store, s->length))
 BOTH(count, (s->store, s->length))
 BOTH(letter, (s->store, s->length, s->place))
 BOTH(longest, (s->store, s->length))
+BOTH(longest_length, (s->store, s->length))
 BOTH(longest_left, (s->store, s->length))
 BOTH(longest_right, (s->store, s->length))
 BOTH(row, (s->store, s->length, s->row))
@@ -55,6 +56,7 @@ const struct call calls[PAIRS] = {
     [CALL_COUNT] = CALL(count, false),
     [CALL_LETTER] = CALL(letter, false),
     [CALL_LONGEST] = CALL(longest, false),
+    [CALL_LONGEST_LENGTH] = CALL(longest_length, false),
     [CALL_LONGEST_LEFT] = CALL(longest_left, false),
     [CALL_LONGEST_RIGHT] = CALL(longest_right, false),
     [CALL_ROW] = CALL(row, false),

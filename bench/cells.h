@@ -9,7 +9,9 @@
 #include <stdint.h>
 #include <string.h>
 
-enum { LENGTH = 0, LINK = 1, INNER = 2, OUTER = 3, EDGE = 4, ORDER = 8, RANK = 9 };
+/* CARRIED of row k + 1 says how many palindromes have length k, and of row 1 how long the longest is. LENGTH is stored plus
+ * one, so that it is the row beside which a palindrome is counted. */
+enum { LENGTH = 0, LINK = 1, INNER = 2, OUTER = 3, EDGE = 4, ORDER = 8, RANK = 9, CARRIED = 10 };
 enum { ROW_BYTES = 24, IMAGINARY = 0, EMPTY = 1, ROWS_MOST = 1026 };
 enum side { LEFT, RIGHT };
 enum reading { PLAIN, INVERTED };
@@ -41,6 +43,8 @@ static inline unsigned capacity_of(const uint8_t *b) { return get(b, 0, 8); }
 static inline unsigned size_of(const uint8_t *b) { return get(b, 0, 9); }
 static inline unsigned count_of(const uint8_t *b) { return get(b, 0, 10); }
 static inline unsigned reading_of(const uint8_t *b) { return get(b, 0, 11); }
+static inline unsigned longest_of(const uint8_t *b) { return get(b, 1, CARRIED); }
+static inline void set_longest(uint8_t *b, unsigned length) { put(b, 1, CARRIED, length); }
 static inline unsigned end_row(const uint8_t *b, enum side side) { return get(b, 1, side == LEFT ? 8 : 9); }
 static inline void set_end_row(uint8_t *b, enum side side, unsigned r) { put(b, 1, side == LEFT ? 8 : 9, r); }
 

@@ -1,8 +1,8 @@
 /* Whether the twin does the library's work: a benchmark of two programs that answer differently is worthless.
  *
- * Every call on every word in either reading, long random sittings from both ends, some with turns, and damaged stores go
- * through both, and every answer and every lent byte must agree. Prints how many calls were compared, and ends with 1 at
- * the first difference. */
+ * Every call on every word in either reading, long random sittings from both ends, some with turns, and damaged stores, in
+ * some of which a carried number alone is untrue, go through both, and every answer and every lent byte must agree. Prints
+ * how many calls were compared, and ends with 1 at the first difference. */
 #include <stdio.h>
 #include <stdlib.h>
 #include <string.h>
@@ -43,6 +43,14 @@ static void compare_turns(const char *where)
         compare(&calls[CALL_TURN_PLAIN + reading], where);
 }
 
+/* On a store that may be damaged: two questions, which show whether it is refused, and the turns. */
+static void compare_damaged(const char *where)
+{
+    refused += compare(&calls[CALL_LENGTH], where) == 3;
+    compare(&calls[CALL_LONGEST_LENGTH], where);
+    compare_turns(where);
+}
+
 /* Spelling and listing into a buffer that just fits, and into one that is a byte short. */
 static void tight(const struct sitting *s)
 {
@@ -72,8 +80,7 @@ static void readings(const struct sitting *s)
             continue;
         }
         here = there = changed;
-        refused += compare(&calls[CALL_LENGTH], "no reading") == 3;
-        compare_turns("no reading");
+        compare_damaged("no reading");
     }
 }
 
@@ -155,9 +162,46 @@ static void damage(uint32_t seed, int word, size_t n, size_t capacity, int tries
                 put(here.store, at / 24, at % 24 / 2, (next_random(&seed) >> 4) % (unsigned)(capacity + 3));
         }
         there = here;
-        refused += compare(&calls[CALL_LENGTH], "a damaged store") == 3;
-        compare_turns("a damaged store");
+        compare_damaged("a damaged store");
     }
+}
+
+/* Other numbers in a cell: one less, one more, and some further off. */
+static void changed_cell(const struct sitting *s, size_t row, size_t cell)
+{
+    unsigned right = get(s->store, row, cell), numbers[] = {right - 1, right + 1, 0, 1, right + 256, 65535};
+    for (size_t i = 0; i < sizeof numbers / sizeof *numbers; i++) {
+        here = *s;
+        put(here.store, row, cell, numbers[i]);
+        there = here;
+        compare_damaged("another number in a cell");
+    }
+}
+
+/* One palindrome counted at each other length instead of its own, so that the sum of the counts stays. */
+static void counted_elsewhere(const struct sitting *s, size_t row)
+{
+    for (size_t other = 2; get(s->store, row, CARRIED) != 0 && other < s->capacity + 2; other++) {
+        here = *s;
+        put(here.store, row, CARRIED, get(here.store, row, CARRIED) - 1);
+        put(here.store, other, CARRIED, get(here.store, other, CARRIED) + 1);
+        there = here;
+        compare_damaged("a palindrome counted elsewhere");
+    }
+}
+
+/* Each carried number changed by itself, and two of the counts at a time; then the cells beside them, which are free. */
+static void carried(int word, size_t n, size_t capacity)
+{
+    static struct sitting s;
+    seat(&s, word, word_reading(word), n, capacity);
+    for (size_t row = EMPTY; row < capacity + 2; row++)
+        changed_cell(&s, row, CARRIED);
+    for (size_t row = 2; row < capacity + 2; row++)
+        counted_elsewhere(&s, row);
+    for (size_t row = EMPTY; row < capacity + 2; row++)
+        put(s.store, row, CARRIED + 1, 65535 - (unsigned)row);
+    compare_all(&s, "numbers in the free cells");
 }
 
 int main(void)
@@ -174,6 +218,9 @@ int main(void)
     for (int word = 0; word < BOTH_WORDS; word++) {
         damage((uint32_t)word + 1, word, 9, 12, 8000);
         damage((uint32_t)word + 9, word, 60, 64, 4000);
+        carried(word, 0, 3);
+        carried(word, 9, 12);
+        carried(word, 60, 64);
     }
     printf("bench/same: %lu calls gave equal answers and equal bytes, %lu damaged stores refused by both\n", compared,
            refused);

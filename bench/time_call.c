@@ -1,9 +1,13 @@
-/* The clock on a single call. A call that changes the store gets it back before the next sample, outside the time. */
+/* The clock on a single call, and on two in turn. A call that changes the store gets it back before the next sample, outside
+ * the time. */
+#include <stdlib.h>
 #include <string.h>
 
 #include "calls.h"
 #include "clock.h"
 #include "timing.h"
+
+enum { RATIO_ROUNDS = 41, RATIO_SAMPLES = 200 };
 
 static struct sitting before, s;
 static volatile uint64_t sink;
@@ -29,6 +33,41 @@ struct pair time_call(int index, int word, int reading, size_t n, int samples)
         twin = smaller(twin, sample(call, call->twin, used));
     }
     return (struct pair){(double)(library - cost) / 1e3, (double)(twin - cost) / 1e3};
+}
+
+/* The smallest time of the first question over that of the second, by the library or by the twin. */
+static double round_ratio(const int questions[2], bool twin)
+{
+    int64_t cost = clock_cost(), least[2] = {INT64_MAX, INT64_MAX};
+    for (int i = 0; i < RATIO_SAMPLES; i++)
+        for (int turn = 0; turn < 2; turn++) {
+            int which = (i + turn) % 2; /* each is the first in every other sample */
+            const struct call *call = &calls[questions[which]];
+            least[which] = smaller(least[which], sample(call, twin ? call->twin : call->library, 0));
+        }
+    return (double)(least[0] - cost) / (double)(least[1] - cost);
+}
+
+static int by_size(const void *a, const void *b)
+{
+    double x = *(const double *)a, y = *(const double *)b;
+    return x < y ? -1 : x > y;
+}
+
+/* The middle one of the ratios of all rounds. */
+static double middle_ratio(const int questions[2], bool twin)
+{
+    double ratios[RATIO_ROUNDS];
+    for (int i = 0; i < RATIO_ROUNDS; i++)
+        ratios[i] = round_ratio(questions, twin);
+    qsort(ratios, RATIO_ROUNDS, sizeof *ratios, by_size);
+    return ratios[RATIO_ROUNDS / 2];
+}
+
+struct pair time_ratio(const int questions[2], int word, int reading, size_t n)
+{
+    seat(&s, word, reading, n, n + 24);
+    return (struct pair){middle_ratio(questions, false), middle_ratio(questions, true)};
 }
 
 double time_floor(size_t capacity, int samples)

@@ -6,20 +6,27 @@
 #include <stdint.h>
 #include <stdio.h>
 
-/* Microseconds of the library and of the twin for the same work. */
+/* Microseconds of the library and of the twin for the same work, or a ratio in the one and in the other. */
 struct pair {
     double library, twin;
 };
 
 /* The ratio that a tested call may reach at 1,000 letters, the one for reading FASTA, the one of a call on an inverted record
- * to the same call on a plain one with as many letters and rows, and the one of a turn to length on the same record. */
+ * to the same call on a plain one with as many letters and rows, the one of a turn to length on the same record, and the one
+ * of the longest length to length, each of which is the test and one read. */
 #define RATIO_LIMIT 1.5
 #define FASTA_LIMIT 1.2
 #define READING_LIMIT 1.2
 #define TURN_LIMIT 3.0
+#define LONGEST_LENGTH_LIMIT 1.02
 
 /* One call on n letters of a word in a reading, 0 or 1; the smallest of many samples, library and twin one after the other. */
 struct pair time_call(int call, int word, int reading, size_t n, int samples);
+
+/* The time of the first question over that of the second on the same record, in the library and in the twin, for a limit that
+ * is nearer than the smallest of many samples keeps still: on random DNA that strays by 2 in 100 with the same code on both
+ * sides. So the two are timed in turn in many rounds, and the middle one of the rounds' ratios counts. */
+struct pair time_ratio(const int questions[2], int word, int reading, size_t n);
 
 /* One pass that reads the bytes that a store of this capacity uses. */
 double time_floor(size_t capacity, int samples);

@@ -24,6 +24,7 @@ uint64_t twin_turn_inverted(uint8_t *store, size_t length);
 uint64_t twin_length(const uint8_t *store, size_t length);
 uint64_t twin_count(const uint8_t *store, size_t length);
 uint64_t twin_longest(const uint8_t *store, size_t length);
+uint64_t twin_longest_length(const uint8_t *store, size_t length);
 uint64_t twin_longest_left(const uint8_t *store, size_t length);
 uint64_t twin_longest_right(const uint8_t *store, size_t length);
 uint64_t twin_letter(const uint8_t *store, size_t length, uint64_t place);

@@ -17,10 +17,25 @@ void bare_open(uint8_t *b, size_t capacity, enum reading reading)
 
 uint64_t bare_add(uint8_t *b, enum side side, uint8_t letter) { return add_in(b, view_of(b, side), side, letter); }
 
+/* A palindrome goes. Where it was the only one of the largest length, the one inside it stays, or there is none in it: so the
+ * next largest length is smaller by one or two, and nothing is searched. */
+static void count_out(uint8_t *b, unsigned stored)
+{
+    unsigned others = get(b, stored, CARRIED) - 1, length = stored - 1;
+    put(b, stored, CARRIED, others);
+    if (others != 0 || length != longest_of(b))
+        return;
+    if (length == 1)
+        set_longest(b, 0);
+    else
+        set_longest(b, get(b, stored - 1, CARRIED) != 0 ? length - 1 : length - 2);
+}
+
 /* Clears row q and the edge that leads to it; it changes places with the last row in use. */
 static void drop(uint8_t *b, unsigned q)
 {
     unsigned last = count_of(b) - 1, rank = get(b, q, RANK), moved = get(b, last + 2, ORDER);
+    count_out(b, get(b, q, LENGTH));
     put_edge(b, get(b, q, INNER), (uint8_t)get(b, q, OUTER), 0);
     memset(b + ROW_BYTES * q, 0, 8);
     put(b, rank + 2, ORDER, moved);

@@ -12,6 +12,11 @@ uint64_t twin_count(const uint8_t *store, size_t length)
     return twin_is_good(store, length) ? answer(false, 0, count_of(store), 0) : 3;
 }
 
+uint64_t twin_longest_length(const uint8_t *store, size_t length)
+{
+    return twin_is_good(store, length) ? answer(false, 0, longest_of(store), 0) : 3;
+}
+
 uint64_t twin_letter(const uint8_t *store, size_t length, uint64_t place)
 {
     if (!twin_is_good(store, length))

@@ -1,12 +1,12 @@
 /* The twin's test of a store: it makes every decision that the library's test makes (crates/audit), for any bytes of
  * any length. Sizes first, so that nothing is read outside the store; then letters and free places, roots, the sparse
- * set; then the letters are read again, each row tested when it is first met; last the header's count and ends, the
- * edges of the rows in use, and zero in the free ones. */
+ * set; then the letters are read again, each row tested and its length counted when it is first met; last the header's
+ * count, ends and longest, what was counted, the edges of the rows in use, and zero in the free ones. */
 #include "links.h"
 #include "twin.h"
 
 struct tour {
-    unsigned row, left, met;
+    unsigned row, left, met, longest;
 };
 
 static bool sized(const uint8_t *b, size_t length)
@@ -48,14 +48,14 @@ static bool roots_right(const uint8_t *b)
     return imaginary == 0 && empty == 1;
 }
 
+/* There are as many places as rows, so where each place holds a row of its own every row is held: no second test goes from the
+ * rows to their places. */
 static bool order_right(const uint8_t *b)
 {
     unsigned capacity = capacity_of(b);
     for (unsigned i = 0; i < capacity; i++) {
-        unsigned row = get(b, i + 2, ORDER), rank = get(b, i + 2, RANK);
+        unsigned row = get(b, i + 2, ORDER);
         if (row < 2 || row >= capacity + 2 || get(b, row, RANK) != i)
-            return false;
-        if (rank >= capacity || get(b, rank + 2, ORDER) != i + 2)
             return false;
     }
     return true;
@@ -75,7 +75,16 @@ static inline bool row_fits(const uint8_t *b, struct view v, size_t k, unsigned 
     return get(b, q, LINK) == link;
 }
 
-static bool replay(const uint8_t *b, uint8_t *marks, struct tour *t)
+/* A row that fits is counted at the row beside which the store must carry the count: its LENGTH is right, so there is one. */
+static inline void count_row(const uint8_t *b, uint16_t *carried, struct tour *t, unsigned q)
+{
+    unsigned stored = get(b, q, LENGTH);
+    carried[stored]++;
+    if (t->longest < stored - 1)
+        t->longest = stored - 1;
+}
+
+static bool replay(const uint8_t *b, uint8_t *marks, uint16_t *carried, struct tour *t)
 {
     unsigned capacity = capacity_of(b);
     size_t n = size_of(b);
@@ -93,6 +102,7 @@ static bool replay(const uint8_t *b, uint8_t *marks, struct tour *t)
             if (!row_fits(b, v, k, u, d, q))
                 return false;
             marks[q] = 1;
+            count_row(b, carried, t, q);
             t->met++;
         }
         if (get(b, q, LENGTH) > k + 1)
@@ -114,10 +124,12 @@ static inline bool edges_right(const uint8_t *b, const uint8_t *marks, unsigned 
            && edge_right(b, marks, capacity, r, 'G') && edge_right(b, marks, capacity, r, 'T');
 }
 
-static bool rows_right(const uint8_t *b, const uint8_t *marks)
+static bool rows_right(const uint8_t *b, const uint8_t *marks, const uint16_t *carried)
 {
     unsigned capacity = capacity_of(b), count = count_of(b);
     for (unsigned r = 0; r < capacity + 2; r++) {
+        if (r >= 2 && get(b, r, CARRIED) != carried[r])
+            return false;
         if (r >= 2 && get(b, r, RANK) >= count) {
             if (!row_is_zero(b, r))
                 return false;
@@ -134,10 +146,11 @@ bool twin_is_good(const uint8_t *b, size_t length)
     if (!sized(b, length) || !letters_right(b) || !roots_right(b) || !order_right(b))
         return false;
     uint8_t marks[ROWS_MOST] = {0};
-    struct tour t = {EMPTY, EMPTY, 0};
-    if (!replay(b, marks, &t))
+    uint16_t carried[ROWS_MOST] = {0};
+    struct tour t = {EMPTY, EMPTY, 0, 0};
+    if (!replay(b, marks, carried, &t))
         return false;
-    if (t.met != count_of(b) || t.left != end_row(b, LEFT) || t.row != end_row(b, RIGHT))
+    if (t.met != count_of(b) || t.left != end_row(b, LEFT) || t.row != end_row(b, RIGHT) || t.longest != longest_of(b))
         return false;
-    return rows_right(b, marks);
+    return rows_right(b, marks, carried);
 }
