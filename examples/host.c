@@ -50,6 +50,7 @@ int main(void)
     answer = must(mirror_remove_right(store, sizeof store));
     printf("removed %c, row %u %s\n", mirror_first(answer), mirror_row_of(answer), mirror_flag(answer) ? "went" : "stays");
     printf("GAAG is %s\n", mirror_flag(must(mirror_find(store, sizeof store, (const uint8_t *)"GAAG", 4))) ? "found" : "absent");
+    printf("longest: %u letters\n", mirror_first(must(mirror_longest_length(store, sizeof store))));
     read_fasta(">e2 from a file\nACCA\nCG\n");
     return 0;
 }

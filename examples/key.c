@@ -100,6 +100,7 @@ static void say_remove(const struct line *l, uint64_t answer)
 
 static uint64_t make_length(const struct line *l) { return (void)l, mirror_length(store, sizeof store); }
 static uint64_t make_count(const struct line *l) { return (void)l, mirror_count(store, sizeof store); }
+static uint64_t make_longest_length(const struct line *l) { return (void)l, mirror_longest_length(store, sizeof store); }
 
 static void say_number(const struct line *l, uint64_t answer)
 {
@@ -185,6 +186,7 @@ static const struct form forms[] = {
     {"length", NOTHING, "length", make_length, say_number},
     {"count", NOTHING, "count", make_count, say_number},
     {"longest", MAYBE_END, "longest, longest left, longest right", make_longest, say_longest},
+    {"longest-length", NOTHING, "longest-length", make_longest_length, say_number},
     {"letter", NUMBER, "letter PLACE", make_letter, say_letter},
     {"row", NUMBER, "row ROW", make_row, say_row},
     {"spell", NUMBER, "spell ROW", make_spell, say_spell},

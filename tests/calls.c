@@ -14,6 +14,7 @@ uint64_t call_make(const library *of, uint8_t *store, size_t length, const call 
     case LENGTH: return of->length(store, length);
     case COUNT: return of->count(store, length);
     case LONGEST: return of->longest(store, length);
+    case LONGEST_LENGTH: return of->longest_length(store, length);
     case LONGEST_LEFT: return of->longest_left(store, length);
     case LONGEST_RIGHT: return of->longest_right(store, length);
     case LETTER: return of->letter(store, length, c->number);

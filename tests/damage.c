@@ -1,6 +1,7 @@
 /* Damaged stores: a good store of either reading is made by calls, damaged in one of the ways of damages.c, and then every
  * call that takes a store must answer 3 exactly where the judge finds it not good, must answer as the oracle says where it
- * is good, and must change no byte where it refuses. Usage: damage [seed [rounds]] */
+ * is good, and must change no byte where it refuses. In small stores each cell that carries a number of repeats or the largest
+ * length is changed in turn, and each cell that is not used. Usage: damage [seed [rounds]] */
 #include "damages.h"
 #include "guard.h"
 #include "mirror.h"
@@ -10,7 +11,7 @@
 #include <stdlib.h>
 #include <string.h>
 
-enum { ROOM = 50 * 1024, STORE_SLOT = 3, IDLE_LIMIT = 100000 };
+enum { ROOM = 50 * 1024, STORE_SLOT = 3, IDLE_LIMIT = 100000, SMALL = 10, SMALL_STORES = 6 };
 
 static uint8_t good[ROOM], damaged[ROOM];
 static size_t good_length, damaged_length;
@@ -23,11 +24,16 @@ static void stop(const char *kind, const char *what)
     exit(1);
 }
 
-/* a good store of few or, now and then, of many letters, whose rows were taken and given back; of the letters two are
- * partners, and some join as a pair around the whole record, so that an inverted one has repeats too */
-static void make_good(unsigned reading)
+/* few or, now and then, many letters */
+static unsigned some_capacity(void)
 {
-    unsigned capacity = random_below(20) ? 1 + random_below(random_below(2) ? 6 : 30) : 200 + random_below(825);
+    return random_below(20) ? 1 + random_below(random_below(2) ? 6 : 30) : 200 + random_below(825);
+}
+
+/* a good store whose rows were taken and given back; of the letters two are partners, and some join as a pair around the whole
+ * record, so that an inverted one has repeats too */
+static void make_good(unsigned reading, unsigned capacity)
+{
     unsigned alphabet = 1 + random_below(4), steps = random_below(capacity < 100 ? 3 * capacity : 150), removing = random_below(50);
     good_length = MIRROR_STORE_SIZE(capacity) + random_below(3) * 7;
     for (size_t i = 0; i < good_length; i++) good[i] = (uint8_t)random_below(256);
@@ -82,21 +88,32 @@ static void work_on(void)
     }
 }
 
+static void copy_good(void)
+{
+    memcpy(damaged, good, good_length);
+    damaged_length = good_length;
+}
+
+/* every call on the damaged store; 1 where it is not good */
+static int judged_bad(void)
+{
+    every_call();
+    const char *wrong = oracle_verdict();
+    if (!wrong) work_on();
+    if (wrong && strncmp(wrong, "header:", 7) == 0) for_header++;
+    made[wrong != NULL]++;
+    return wrong != NULL;
+}
+
 static void one_damage(const damage *d, unsigned reading, unsigned long tally[2])
 {
     int idle = 0;
     do {
         if (idle++ > IDLE_LIMIT) stop(d->name, "never found a store to damage");
-        make_good(reading);
-        memcpy(damaged, good, good_length);
-        damaged_length = good_length;
+        make_good(reading, some_capacity());
+        copy_good();
     } while (!d->make(damaged, &damaged_length, &shows));
-    every_call();
-    const char *wrong = oracle_verdict();
-    if (!wrong) work_on();
-    if (wrong && strncmp(wrong, "header:", 7) == 0) for_header++;
-    tally[wrong != NULL]++;
-    made[wrong != NULL]++;
+    tally[judged_bad()]++;
 }
 
 static void one_kind(const damage *d, unsigned reading, int rounds)
@@ -113,6 +130,53 @@ static void one_kind(const damage *d, unsigned reading, int rounds)
     if (!(d->outcomes & (MAKES_BAD | MAY_BE_BAD)) && tally[1] > 0) stop(d->name, "a store was bad");
 }
 
+/* by what the layout says the damaged store is bad, or still good */
+static void must_be(int bad)
+{
+    if (judged_bad() != bad) stop(bad ? "a number that is carried" : "a cell that is not used", bad ? "it may be wrong" : "it may not be changed");
+}
+
+static void one_cell(size_t r, size_t cell, unsigned value, int bad)
+{
+    copy_good();
+    layout_put(damaged, r, cell, value);
+    must_be(bad);
+}
+
+static void carried_exchanged(size_t r, size_t q)
+{
+    unsigned one = layout_cell(good, r, CELL_CARRIED), other = layout_cell(good, q, CELL_CARRIED);
+    if (one == other) return;
+    copy_good();
+    layout_put(damaged, r, CELL_CARRIED, other);
+    layout_put(damaged, q, CELL_CARRIED, one);
+    must_be(1);
+}
+
+/* each number that the good store carries, the largest length first: one more, one less, another high byte, exchanged with each
+ * that differs; and each cell that is not used with any number */
+static void every_carried_cell(void)
+{
+    for (size_t r = 1; r < shows.capacity + 2; r++) {
+        unsigned now = layout_cell(good, r, CELL_CARRIED);
+        one_cell(r, CELL_CARRIED, now + 1, 1);
+        one_cell(r, CELL_CARRIED, now - 1, 1);
+        one_cell(r, CELL_CARRIED, now + 256, 1);
+        one_cell(r, CELL_UNUSED, 1 + random_below(65535), 0);
+        for (size_t q = 1; q < r; q++) carried_exchanged(r, q);
+    }
+}
+
+static void small_stores(unsigned reading)
+{
+    for (unsigned capacity = 1; capacity <= SMALL; capacity++)
+        for (int i = 0; i < SMALL_STORES; i++) {
+            guard_at(i % 2 ? GUARD_BEFORE : GUARD_AFTER);
+            make_good(reading, capacity);
+            every_carried_cell();
+        }
+}
+
 int main(int argc, char **argv)
 {
     random_seed(argc > 1 ? argv[1] : NULL, 20251116);
@@ -120,6 +184,7 @@ int main(int argc, char **argv)
     setvbuf(stdout, NULL, _IOLBF, 0);
     for (size_t i = 0; i < damage_kinds; i++)
         for (unsigned reading = PLAIN; reading < READINGS; reading++) one_kind(&damages[i], reading, rounds);
+    for (unsigned reading = PLAIN; reading < READINGS; reading++) small_stores(reading);
     if (for_header * 2 > made[1]) stop("damage", "most stores are bad for their header alone");
     printf("%lu damaged stores judged good, %lu bad (%lu of them by the header), %lu calls agree\n", made[0], made[1], for_header, oracle_calls);
     return 0;

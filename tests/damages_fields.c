@@ -69,10 +69,12 @@ int smaller_capacity(uint8_t *store, size_t *length, const shown *s)
     return 1;
 }
 
+/* one of them, or all from some row on */
 int unused_cells(uint8_t *store, size_t *length, const shown *s)
 {
     (void)length;
-    layout_put(store, 1 + random_below((unsigned)s->capacity + 1), CELL_UNUSED + random_below(2), 1 + random_below(65535));
+    unsigned from = 1 + random_below((unsigned)s->capacity + 1), to = random_below(2) ? from : (unsigned)s->capacity + 1;
+    for (unsigned r = from; r <= to; r++) layout_put(store, r, CELL_UNUSED, 1 + random_below(65535));
     return 1;
 }
 

@@ -12,6 +12,8 @@ unsigned row_that_is(const shown *s, int used);
 void exchange_cells(uint8_t *store, size_t r, size_t q, size_t from, size_t to);
 /* a cell with another value than it holds; 0 where it holds this one */
 int set_cell(uint8_t *store, size_t r, size_t f, unsigned value);
+/* carries the lengths that the rows in use say, whatever the letters are */
+void carry_rows(uint8_t *store, const shown *s);
 /* the value, with r and q exchanged */
 unsigned renamed(unsigned value, unsigned r, unsigned q);
 
@@ -67,5 +69,19 @@ DAMAGE(letters_renamed);
 DAMAGE(partners_in_the_table);
 DAMAGE(letter_renamed_to_n);
 DAMAGE(letter_joined_by_hand);
+
+/* what is carried of the repeats' lengths */
+DAMAGE(one_more_of_a_length);
+DAMAGE(one_fewer_of_a_length);
+DAMAGE(one_of_no_length);
+DAMAGE(largest_too_large);
+DAMAGE(largest_too_small);
+DAMAGE(two_lengths_exchanged);
+DAMAGE(counted_at_another_length);
+DAMAGE(lengths_that_agree);
+DAMAGE(lengths_of_the_other_reading);
+DAMAGE(lengths_of_a_letter_less);
+DAMAGE(no_lengths);
+DAMAGE(another_length_counted);
 
 #endif

@@ -111,6 +111,12 @@ static void hang(uint8_t *store, const shown *s, unsigned q, unsigned r, int c)
     layout_put(store, r, CELL_EDGES + (size_t)c, q);
 }
 
+/* the carried lengths become those of the rows, or stay those of the letters */
+static void lengths_follow(uint8_t *store, const shown *s)
+{
+    if (random_below(2)) carry_rows(store, s);
+}
+
 /* a row for a palindrome that does not stand, counted and hung as if it did */
 int row_grafted(uint8_t *store, size_t *length, const shown *s)
 {
@@ -120,6 +126,7 @@ int row_grafted(uint8_t *store, size_t *length, const shown *s)
     if (s->count == s->capacity || c < 0) return 0;
     hang(store, s, layout_cell(store, s->count + 2, CELL_ORDER), r, c);
     layout_put(store, 0, CELL_COUNT, (unsigned)s->count + 1);
+    lengths_follow(store, s);
     return 1;
 }
 
@@ -156,6 +163,7 @@ int row_pruned(uint8_t *store, size_t *length, const shown *s)
     unhang(store, r);
     exchange_order(store, layout_cell(store, r, CELL_RANK), (unsigned)s->count - 1);
     layout_put(store, 0, CELL_COUNT, (unsigned)s->count - 1);
+    lengths_follow(store, s);
     return 1;
 }
 
@@ -170,6 +178,7 @@ int leaf_grafted_elsewhere(uint8_t *store, size_t *length, const shown *s)
     if (c < 0) return 0;
     unhang(store, r);
     hang(store, s, r, at, c);
+    lengths_follow(store, s);
     return 1;
 }
 
@@ -181,5 +190,6 @@ int two_rows_for_one(uint8_t *store, size_t *length, const shown *s)
     unsigned q = layout_cell(store, s->count + 2, CELL_ORDER);
     for (size_t f = 0; f < 8; f++) layout_put(store, q, f, layout_cell(store, r, f));
     layout_put(store, 0, CELL_COUNT, (unsigned)s->count + 1);
+    lengths_follow(store, s);
     return 1;
 }

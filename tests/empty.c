@@ -28,6 +28,7 @@ static void no_store(uint8_t *p)
     must("length", mirror_length(p, 0), MIRROR_DAMAGED);
     must("count", mirror_count(p, 0), MIRROR_DAMAGED);
     must("longest", mirror_longest(p, 0), MIRROR_DAMAGED);
+    must("longest_length", mirror_longest_length(p, 0), MIRROR_DAMAGED);
     must("longest_left", mirror_longest_left(p, 0), MIRROR_DAMAGED);
     must("longest_right", mirror_longest_right(p, 0), MIRROR_DAMAGED);
     must("letter", mirror_letter(p, 0, 0), MIRROR_DAMAGED);

@@ -70,12 +70,20 @@ static size_t spelling(const uint8_t *store, const shown *s, size_t row, unsigne
     return n;
 }
 
+static void tally(shown *s, size_t n)
+{
+    s->of_length[n]++;
+    if (n > s->largest) s->largest = (unsigned)n;
+}
+
 /* every used row spells a palindrome of the record, no two the same, and there are as many as the record has */
 static const char *words(const uint8_t *store, shown *s)
 {
     static stretch all[LAYOUT_MOST];
     unsigned char word[2 * LAYOUT_MOST + 2];
-    if (s->count != brute_list(s->rule, s->letters, s->size, all)) return "count: not the number of palindromes";
+    size_t stand = brute_list(s->rule, s->letters, s->size, all);
+    if (s->count != stand) return "count: not the number of palindromes";
+    for (size_t i = 0; i < stand; i++) tally(s, all[i].end - all[i].start);
     for (size_t r = 2; r < s->capacity + 2; r++) {
         if (!s->used[r]) continue;
         size_t n = spelling(store, s, r, word);
@@ -148,12 +156,21 @@ static const char *ends(const uint8_t *store, const shown *s)
     return NULL;
 }
 
+/* how many palindromes have each length, none a length above the number of letters, and the largest length */
+static const char *carried(const uint8_t *store, const shown *s)
+{
+    for (size_t k = 1; k <= s->capacity; k++)
+        if (layout_cell(store, k + 1, CELL_CARRIED) != s->of_length[k]) return "carried: how many of a length";
+    if (layout_cell(store, 1, CELL_LARGEST) != s->largest) return "carried: the largest length";
+    return NULL;
+}
+
 const char *judge(const uint8_t *store, size_t length, shown *s)
 {
     const char *wrong;
     memset(s, 0, sizeof *s);
     if ((wrong = header(store, length, s)) || (wrong = letters(store, s)) || (wrong = sparse_set(store, s))) return wrong;
     if ((wrong = words(store, s)) || (wrong = free_rows(store, s)) || (wrong = fields(store, s))) return wrong;
-    if ((wrong = edges(store, s)) || (wrong = ends(store, s))) return wrong;
+    if ((wrong = edges(store, s)) || (wrong = ends(store, s)) || (wrong = carried(store, s))) return wrong;
     return NULL;
 }

@@ -5,8 +5,8 @@
 #include "brute.h"
 #include "layout.h"
 
-/* what a store shows: its reading with the partner rule of it, its letters, and for each used row from 2 on the first place
- * of its palindrome */
+/* what a store shows: its reading with the partner rule of it, its letters, for each used row from 2 on the first place of its
+ * palindrome; and how many palindromes its letters have of each length, with the largest of these lengths, 0 for none */
 typedef struct {
     size_t capacity, size, count;
     unsigned reading;
@@ -14,6 +14,7 @@ typedef struct {
     unsigned char letters[LAYOUT_MOST];
     unsigned char used[LAYOUT_MOST + 2];
     stretch rows[LAYOUT_MOST + 2];
+    unsigned of_length[LAYOUT_MOST + 1], largest;
 } shown;
 
 /* NULL for a good store, and else what is wrong with it. What the store shows is filled in as far as it is right. */

@@ -1,8 +1,8 @@
 /* The sittings with known keys of the scope, as its table has them, through the C boundary. Those without a star are
  * here only; the starred ones are proved (crates/known_answers) and run here too, at several capacities and built from either end.
  * A key is compared as it stands in the table, and no other program is asked. Beside the table: small letters are refused,
- * the keys of inverted records that 02 (vi) and source 004 have, and records that are turned, 02 (vii). Keys that ask for no
- * repeat are run with either opening. */
+ * the keys of inverted records that 02 (vi) and source 004 have, records that are turned, 02 (vii), and how many repeats of each
+ * length a store carries, 02 (ii). Keys that ask for no repeat are run with either opening. */
 #include "mirror.h"
 #include <stdio.h>
 #include <stdlib.h>
@@ -65,6 +65,7 @@ static uint64_t count(void)
 static void longest(uint64_t n, uint64_t place)
 {
     key("longest", n << 32 | place << 48, mirror_longest(store, length));
+    key("longest length", n << 32, mirror_longest_length(store, length));
 }
 
 /* a removal: its letter, and the repeat that goes, NULL for none */
@@ -83,6 +84,7 @@ static void empty_at_every_capacity(opening *open)
         record(open, "", capacity, 0);
         key("remove left", 6, mirror_remove_left(store, length));
         key("letter at 0", 7, mirror_letter(store, length, 0));
+        key("longest length", 0, mirror_longest_length(store, length));
     }
 }
 
@@ -310,6 +312,111 @@ static void empty_turned(size_t reading)
     }
 }
 
+/* ---- how many repeats of each length a store carries, 02 (ii) */
+
+/* the two bytes at which docs/LAYOUT.md has how many repeats are of length k, and for k = 0 the largest length */
+static uint8_t *carried_at(uint64_t k)
+{
+    return store + 24 * (k + 1) + 20;
+}
+
+static uint64_t carried(uint64_t k)
+{
+    return carried_at(k)[0] | (uint64_t)carried_at(k)[1] << 8;
+}
+
+/* a digit for each length from 1 to the largest, and no repeat is longer */
+static void carries(uint64_t capacity, const char *digits)
+{
+    uint64_t largest = strlen(digits);
+    for (uint64_t k = 1; k <= capacity; k++) key("how many of a length", k <= largest ? (uint64_t)(digits[k - 1] - '0') : 0, carried(k));
+    key("the largest length", largest, carried(0));
+    key("longest length", largest << 32, mirror_longest_length(store, length));
+}
+
+/* a removal lowers the largest length by two, by one, or not at all: another repeat has it, or none of it goes */
+static void lengths(uint64_t capacity, int from_left)
+{
+    record(mirror_open, "AAAA", capacity, from_left);
+    carries(capacity, "1111");
+    goes(0, 'A', "AAAA");
+    carries(capacity, "111");
+    record(mirror_open, "ACGA", capacity, from_left);
+    carries(capacity, "3");
+    goes(1, 'A', NULL);
+    carries(capacity, "3");
+    record(mirror_open, "ACAC", capacity, from_left);
+    carries(capacity, "202");
+    goes(1, 'A', "ACA");
+    carries(capacity, "201");
+    goes(1, 'C', "CAC");
+    carries(capacity, "2");
+    goes(1, 'A', "A");
+    carries(capacity, "1");
+    goes(1, 'C', "C");
+    carries(capacity, "");
+    record(mirror_open, "ACCACG", capacity, from_left);
+    carries(capacity, "3111");
+    goes(1, 'A', "ACCA");
+    carries(capacity, "311");
+    record(mirror_open, "ACGAAG", capacity, from_left);
+    carries(capacity, "3101");
+    goes(0, 'G', "GAAG");
+    carries(capacity, "31");
+}
+
+static void inverted_lengths(uint64_t capacity, int from_left)
+{
+    record(mirror_open_inverted, "AGTCT", capacity, from_left);
+    carries(capacity, "");
+    record(mirror_open, "GAATTC", capacity, from_left);
+    carries(capacity, "42");
+    key("turn inverted", 0, mirror_turn_inverted(store, length));
+    carries(capacity, "010101");
+    goes(0, 'C', "GAATTC");
+    carries(capacity, "0101");
+    goes(1, 'G', NULL);
+    carries(capacity, "0101");
+    goes(1, 'A', "AATT");
+    carries(capacity, "01");
+    goes(0, 'T', NULL);
+    carries(capacity, "01");
+    key("turn plain", 0, mirror_turn_plain(store, length));
+    carries(capacity, "2");
+    key("turn inverted again", 0, mirror_turn_inverted(store, length));
+    goes(0, 'T', "AT");
+    carries(capacity, "");
+}
+
+/* each byte of the carried numbers in turn is one more: it is refused, every byte stays, and put back it is good again */
+static void untrue(uint64_t capacity)
+{
+    for (uint64_t k = 0; k <= capacity; k++)
+        for (int i = 0; i < 2; i++) {
+            carried_at(k)[i]++;
+            memcpy(before, store, sizeof store);
+            key("longest length of what is not good", 3, mirror_longest_length(store, length));
+            key("a removal from it", 3, mirror_remove_left(store, length));
+            key("every byte stays", 0, memcmp(before, store, sizeof store) != 0);
+            carried_at(k)[i]--;
+        }
+    key("it is good again", 0, mirror_refusal(mirror_longest_length(store, length)));
+}
+
+/* the longest repeat that there can be: 1,024 letters, and one repeat of each length */
+static void longest_of_all(void)
+{
+    char letters[1025] = "";
+    memset(letters, 'A', 1024);
+    record(mirror_open, letters, 1024, 0);
+    for (uint64_t n = 1024; n > 1021; n--) {
+        for (uint64_t k = 1; k <= 1024; k++) key("how many of a length", k <= n, carried(k));
+        longest(n, 0);
+        untrue(1024);
+        key("a removal", 1ull << 8 | (n + 1) << 16 | (uint64_t)'A' << 32, mirror_remove_left(store, length));
+    }
+}
+
 /* the keys that ask for no repeat */
 static void either_reading(opening *open)
 {
@@ -340,7 +447,10 @@ int main(void)
             if (capacities[k] >= 10) nested_repeats(capacities[k], from_left);
             there_and_back(capacities[k], from_left);
             damaged(capacities[k], from_left);
+            lengths(capacities[k], from_left);
+            inverted_lengths(capacities[k], from_left);
         }
+    longest_of_all();
     printf("%lu keys\n", compared);
     return 0;
 }

@@ -5,10 +5,11 @@
 #include <stdint.h>
 
 enum { LAYOUT_MOST = 1024, ROW_BYTES = 24, ROW_CELLS = 12 };
-enum { CELL_LENGTH, CELL_LINK, CELL_INNER, CELL_OUTER, CELL_EDGES, CELL_ORDER = 8, CELL_RANK = 9, CELL_UNUSED = 10 };
-/* the header's cells: capacity to reading in row 0, both ends in row 1 */
+/* CELL_CARRIED of row k + 1, from row 2 on, holds how many repeats have length k */
+enum { CELL_LENGTH, CELL_LINK, CELL_INNER, CELL_OUTER, CELL_EDGES, CELL_ORDER = 8, CELL_RANK, CELL_CARRIED, CELL_UNUSED };
+/* the header's cells: capacity to reading in row 0, both ends and the largest length in row 1, where CELL_UNUSED is free too */
 enum { CELL_CAPACITY = 8, CELL_SIZE, CELL_COUNT, CELL_READING };
-enum { CELL_LEFT = 8, CELL_RIGHT };
+enum { CELL_LEFT = 8, CELL_RIGHT, CELL_LARGEST };
 
 static inline unsigned layout_cell(const uint8_t *store, size_t row, size_t cell)
 {

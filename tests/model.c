@@ -1,6 +1,6 @@
 #include "model.h"
-#include "brute.h"
 #include "guard.h"
+#include "layout.h"
 #include "mirror.h"
 #include "oracle.h"
 #include <stdio.h>
@@ -9,13 +9,14 @@
 
 enum { SHORT = 48, MIDDLING = 200, PIECE_SLOT = 0, OUT_SLOT, SCRATCH_SLOT, STORE_SLOT, REMADE_SLOT };
 
-unsigned long model_sittings, model_calls, model_turns, model_facts;
+unsigned long model_sittings, model_calls, model_turns, model_facts, model_falls[READINGS][MODEL_FALLS];
 
 static const library linked = LIBRARY_OF_THIS_PROGRAM;
 static unsigned reading;
 static const unsigned char *rule;
 static unsigned char letters[MODEL_MOST];
 static size_t length, capacity, count;
+static size_t largest; /* the longest length that the store answered after the last change */
 static struct { size_t length; unsigned char word[MODEL_MOST]; unsigned row; } repeats[MODEL_MOST];
 static uint8_t *store;
 static size_t store_length;
@@ -195,6 +196,28 @@ static void ask_ends(void)
          mirror_longest_right(store, store_length));
 }
 
+/* What the store carries: as many repeats of each length as stand, together as many as are counted, and the largest of these
+ * lengths, which is what it answers. */
+static void carries(void)
+{
+    unsigned of_length[MODEL_MOST + 1] = {0};
+    size_t sum = 0, longest = 0;
+    for (size_t i = 0; i < count; i++) {
+        of_length[repeats[i].length]++;
+        if (repeats[i].length > longest) longest = repeats[i].length;
+    }
+    for (size_t k = 1; k <= capacity; k++) {
+        unsigned carried = layout_cell(store, k + 1, CELL_CARRIED);
+        if (carried != of_length[k]) fail("how many repeats of a length are carried", of_length[k], carried);
+        sum += carried;
+    }
+    same("all that are carried", layout_cell(store, 0, CELL_COUNT), sum);
+    same("the largest length carried", longest, layout_cell(store, 1, CELL_LARGEST));
+    uint64_t answer = mirror_longest_length(store, store_length);
+    same("longest length", packed(0, 0, longest, 0), answer);
+    largest = mirror_first(answer);
+}
+
 void model_ask(void)
 {
     stretch longest = brute_longest(rule, letters, length);
@@ -202,6 +225,7 @@ void model_ask(void)
     same("length", packed(0, 0, length, 0), mirror_length(store, store_length));
     same("count", packed(0, 0, count, 0), mirror_count(store, store_length));
     same("longest", length ? packed(0, 0, longest.end - longest.start, longest.start) : 6, mirror_longest(store, store_length));
+    same("longest length", packed(0, 0, longest.end - longest.start, 0), mirror_longest_length(store, store_length));
     ask_ends();
     for (size_t i = 0; i < length; i++) same("letter", packed(0, 0, letters[i], 0), mirror_letter(store, store_length, i));
     same("letter past the end", 7, mirror_letter(store, store_length, length));
@@ -260,12 +284,28 @@ void model_add(int left, uint64_t letter, int undo)
     const unsigned char *w = left ? letters : letters + length - n;
     unsigned fresh = n > 0 && known(w, n) < 0, row = fresh ? mirror_row_of(got) : 0;
     same("addition", packed(fresh, row, 0, 0), got);
+    size_t raised = fresh && n > largest ? n : largest; /* to the new repeat's length, or not at all */
     if (undo) {
+        same("longest length, before the addition is undone", packed(0, 0, raised, 0), mirror_longest_length(store, store_length));
         uint64_t back = left ? mirror_remove_left(store, store_length) : mirror_remove_right(store, store_length);
         same("addition undone", packed(fresh, row, letter, 0), back);
         unchanged("an addition undone at once left other bytes");
         part(left);
-    } else if (fresh) bring_in(w, n, row);
+        return;
+    }
+    if (fresh) bring_in(w, n, row);
+    carries();
+    same("longest length after an addition", raised, largest);
+}
+
+/* a removal lowers the longest length by 0, 1 or 2, and in an inverted record, where each length is even, not by 1 */
+static void lowered(void)
+{
+    size_t was = largest;
+    carries();
+    if (largest > was || was - largest >= MODEL_FALLS) fail("longest length after a removal", was, largest);
+    if (reading == INVERTED && was - largest == 1) fail("longest length of an inverted record after a removal", was, largest);
+    model_falls[reading][was - largest]++;
 }
 
 void model_remove(int left)
@@ -286,6 +326,7 @@ void model_remove(int left)
     unsigned gone = n > 0 && brute_first(word, n, letters, length) > length;
     same("removal", packed(gone, gone ? repeats[i].row : 0, letter, 0), got);
     if (gone) repeats[i] = repeats[--count];
+    lowered();
 }
 
 /* the store as it was before a turn, opened in the reading in force, with the letters added at the right: the same bytes */
@@ -317,6 +358,7 @@ void model_turn(unsigned to)
         same("find after a turn", packed(1, mirror_row_of(found), 0, 0), found);
         bring_in(w, list[i].end - list[i].start, mirror_row_of(found));
     }
+    carries();
     remade();
 }
 
@@ -338,4 +380,5 @@ void model_open(unsigned wanted_reading, size_t wanted, size_t extra)
     same("capacity before length", 1, oracle_open(store, 0, reading, 0));
     unchanged("a refused opening changed the store");
     same("opening", 0, oracle_open(store, store_length, reading, capacity));
+    carries();
 }

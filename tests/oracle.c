@@ -65,6 +65,14 @@ static uint64_t change_answer(const call *c)
     return packed(gone, gone ? judge_row(&was, longest, m) : 0, was.letters[left ? 0 : n - 1], 0);
 }
 
+/* the longest repeat's length alone is 0 where there is none, and never refused for it */
+static uint64_t longest_answer(const call *c)
+{
+    stretch at = brute_longest(was.rule, was.letters, was.size);
+    if (c->kind == LONGEST_LENGTH) return packed(0, 0, at.end - at.start, 0);
+    return was.size ? packed(0, 0, at.end - at.start, at.start) : 6;
+}
+
 static uint64_t end_answer(int left)
 {
     if (was.size == 0) return 6;
@@ -119,10 +127,7 @@ static uint64_t wanted_answer(const call *c)
     case TURN_PLAIN: case TURN_INVERTED: return 0;
     case LENGTH: return packed(0, 0, was.size, 0);
     case COUNT: return packed(0, 0, was.count, 0);
-    case LONGEST: {
-        stretch at = brute_longest(was.rule, was.letters, was.size);
-        return was.size ? packed(0, 0, at.end - at.start, at.start) : 6;
-    }
+    case LONGEST: case LONGEST_LENGTH: return longest_answer(c);
     case LONGEST_LEFT: return end_answer(1);
     case LONGEST_RIGHT: return end_answer(0);
     case LETTER: return c->number < was.size ? packed(0, 0, was.letters[c->number], 0) : 7;
@@ -163,9 +168,10 @@ static void check_order(const uint8_t *store, size_t length, const call *c, unsi
         unsigned wanted = layout_cell(before, from + 2, CELL_ORDER), got = layout_cell(store, i + 2, CELL_ORDER);
         if (wanted != got) fail(c, "the order of rows", wanted, got, length);
     }
-    for (size_t r = 1; r < was.capacity + 2; r++)
-        for (size_t f = CELL_UNUSED; f < ROW_CELLS; f++)
-            if (layout_cell(before, r, f) != layout_cell(store, r, f)) fail(c, "a cell that is not used", r, f, length);
+    for (size_t r = 1; r < was.capacity + 2; r++) {
+        unsigned kept = layout_cell(before, r, CELL_UNUSED), got = layout_cell(store, r, CELL_UNUSED);
+        if (kept != got) fail(c, "a cell that is not used", kept, got, length);
+    }
     check_beyond(store, length, c, was.capacity);
 }
 
@@ -212,8 +218,8 @@ static void check_anew(const uint8_t *store, size_t length, const call *c, size_
     for (unsigned r = 1; r < capacity + 2; r++) {
         unsigned listed = r < 2 ? r : layout_cell(store, r, CELL_ORDER);
         if (listed != r) fail(c, "the order of rows", r, listed, length);
-        for (size_t f = CELL_UNUSED; f < ROW_CELLS; f++)
-            if (layout_cell(store, r, f) != 0) fail(c, "a cell that is not used", r, f, length);
+        unsigned got = layout_cell(store, r, CELL_UNUSED);
+        if (got != 0) fail(c, "a cell that is not used", 0, got, length);
     }
     check_beyond(store, length, c, capacity);
 }

@@ -2,8 +2,8 @@
  * strands is a repeat of every inverted record that holds it, and is found there; any other is absent, though it stands. The
  * records are a site between random letters, put together at the right or at both ends and taken apart again, and each site
  * alone. Some are opened inverted; others plain, where no site of the first kind is found, and are turned to the inverted
- * reading then. Whether letters read alike is tried here in a few lines, and no other test's program is asked. A wrong answer
- * is told on standard error, and the program ends with 1. */
+ * reading then. The longest length is that of the longest stretch that reads alike. Whether letters read alike is tried here in
+ * a few lines, and no other test's program is asked. A wrong answer is told on standard error, and the program ends with 1. */
 #include "mirror.h"
 #include "random.h"
 #include <stdio.h>
@@ -83,6 +83,21 @@ static void holds_the_letters(void)
     size_t n = strlen(letters);
     key("length", (uint64_t)n << 32, mirror_length(store, length));
     for (size_t i = 0; i < n; i++) key("letter", (uint64_t)letters[i] << 32, mirror_letter(store, length, i));
+}
+
+/* the length of the longest stretch that reads alike */
+static uint64_t longest_alike(void)
+{
+    size_t n = strlen(letters), longest = 0;
+    for (size_t start = 0; start < n; start++)
+        for (size_t end = start + longest + 1; end <= n; end++)
+            if (reads_alike(letters + start, end - start)) longest = end - start;
+    return longest;
+}
+
+static void longest_length(void)
+{
+    key("longest length", longest_alike() << 32, mirror_longest_length(store, length));
 }
 
 /* opens a record by the given call and puts in the letters: those from `from` on at the right, those before it at the left,
@@ -168,11 +183,14 @@ static void between_flanks(const entry *e, int at_both_ends, int turned)
     if (turned) turn_inverted();
     every_site(even, EVEN, 1);
     every_site(uneven, UNEVEN, 0);
+    longest_length();
     take_apart(before, after);
     every_site(even, EVEN, 1);
     every_site(uneven, UNEVEN, 0);
+    longest_length();
     take_apart(m / 2, m - m / 2);
     key("repeats of no letters", 0, mirror_count(store, length));
+    key("longest length of no letters", 0, mirror_longest_length(store, length));
 }
 
 /* the lines of the list, by trying every stretch: each that reads alike, where it first stands */
@@ -202,6 +220,7 @@ static void alone(const entry *e, int found)
     key("bytes listed", (uint64_t)bytes << 32,
         mirror_list(store, length, (const uint8_t *)e->enzyme, strlen(e->enzyme), scratch, sizeof scratch, (uint8_t *)got, bytes));
     key("list", 0, memcmp(wanted, got, bytes) != 0);
+    longest_length();
     if (!found) {
         key("absent", 0, find(e->site, n));
         return;
@@ -211,7 +230,9 @@ static void alone(const entry *e, int found)
     key("longest", (uint64_t)n << 32, mirror_longest(store, length));
     key("goes", 1 << 8 | row << 16 | (uint64_t)e->site[n - 1] << 32, mirror_remove_right(store, length));
     key("absent", 0, find(e->site, n));
+    key("longest length without it", (uint64_t)(n - 2) << 32, mirror_longest_length(store, length));
     key("comes", 1 << 8 | row << 16, mirror_add_right(store, length, (unsigned char)e->site[n - 1]));
+    key("longest length with it", (uint64_t)n << 32, mirror_longest_length(store, length));
     is_found(e->site, n);
 }
 

@@ -187,6 +187,7 @@ static void ask(const char *call, char *said)
     if (strcmp(call, "length") == 0) sprintf(said, "%zu", size);
     else if (strcmp(call, "count") == 0) sprintf(said, "%zu", repeats);
     else if (strcmp(call, "longest") == 0) sprintf(said, "length %zu at %zu", longest.end - longest.start, longest.start);
+    else if (strcmp(call, "longest-length") == 0) sprintf(said, "%zu", longest.end - longest.start);
     else if (strncmp(call, "longest ", 8) == 0) say_end(strcmp(about, "left") == 0, said);
     else if (strncmp(call, "letter ", 7) == 0) sprintf(said, "%.1s", number < size ? (const char *)letters + number : "");
     else if (strncmp(call, "row ", 4) == 0) say_row(number, said);

@@ -1,8 +1,8 @@
 /* Long sittings through the C boundary: every call, every answer, every lent byte, at small and large capacities, first
  * with buffers that end at a guard page and then with buffers that begin right after one. Random sittings, then
  * structured records that grow at one end or at both, up to full length, and shrink again; all of it on plain records and on
- * inverted ones, with and without turns to the other reading. Usage: sittings [seed [sittings]] */
-#include "brute.h"
+ * inverted ones, with and without turns to the other reading. Removals must be seen to lower the longest length in every way
+ * that there is. Usage: sittings [seed [sittings]] */
 #include "guard.h"
 #include "model.h"
 #include "random.h"
@@ -132,6 +132,15 @@ static void run_full(unsigned reading, int place)
     structured_sitting(reading, turned, MODEL_MOST, (unsigned)turned % 3, 1);
 }
 
+/* 0, 1 and 2 in plain records; 0 and 2 in inverted ones */
+static int every_fall(void)
+{
+    const unsigned long *plain = model_falls[PLAIN], *inverted = model_falls[INVERTED];
+    printf("removals lowered the longest length by 0, 1 and 2: %lu, %lu and %lu of plain records, %lu, %lu and %lu of inverted ones\n", plain[0], plain[1],
+           plain[2], inverted[0], inverted[1], inverted[2]);
+    return plain[0] && plain[1] && plain[2] && inverted[0] && inverted[2];
+}
+
 int main(int argc, char **argv)
 {
     int sittings = argc > 2 ? atoi(argv[2]) : 24;
@@ -143,6 +152,7 @@ int main(int argc, char **argv)
             run_full(reading, place);
         }
     }
+    if (!every_fall()) return 1;
     printf("%lu sittings, %lu changes, %lu turns to the other reading, %lu facts\n", model_sittings, model_calls, model_turns, model_facts);
     return 0;
 }

@@ -17,8 +17,9 @@
 #include <stdlib.h>
 #include <string.h>
 
-enum { MOST = 1024, EXTRA = 40, PIECE = MOST + 8, FASTA_MOST = 8192, FASTA = LIBRARY_CALLS - 1 };
+enum { MOST = 1024, PIECE = MOST + 8, FASTA_MOST = 8192, FASTA = LIBRARY_CALLS - 1 };
 enum { TEXT_SLOT, OUT_SLOT, SCRATCH_SLOT = OUT_SLOT + 2, STORE_SLOT = SCRATCH_SLOT + 2 };
+enum { EXTRA = 60 }; /* fewer bytes than this are lent beyond what a store needs; 48 would do for one letter more */
 enum { SMALL = 24 }; /* up to so many letters the judge, which damage asks, is fast */
 
 static library both[2];
