@@ -5,22 +5,22 @@
 use Prim.Native.Nat.{ℕ, _+_, _≤_, _<_, max}
 use native.Mathlib.Decide.{decLt}
 use native.Mathlib.Omega.{arith}
-use mathlib.Core.Path.{_≡_, sym, ap, _∙_}
+use mathlib.Core.Path.{_≡_, ap, _∙_}
 use mathlib.Core.Bool.{Bool, true, false, cond}
 use mathlib.Core.Logic.{_≢_, _⊎_, inl, inr, ⊎-elim}
 use mathlib.Core.List.{List, [], _∷_, cons-ne-nil}
 use lib.Dec.{eqb}
 use lib.ListN.{length, length-append}
-use borrow.Author.Tests.{eqb-true, eq-eqb, ne-eqb}
+use borrow.Author.Tests.{ne-eqb}
 use Rattle.palindromes.specs.Word.{Word, member, keep}
 use Rattle.palindromes.specs.Palindrome.{SelfInverse, Symmetric, Palindrome}
 use Rattle.palindromes.specs.Place.{Stands}
 use Rattle.palindromes.specs.Record.{palindromes, countOfLength, longestLength}
 use Rattle.palindromes.specs.End.{End, added, removed, longestAt}
 use Rattle.palindromes.specs.Node.{spelt, innerOf, spellingOf, around}
-use Rattle.palindromes.proofs.Tests.{both-true, both-are, not-true-false}
+use Rattle.palindromes.proofs.Tests.{not-true-false}
 use Rattle.palindromes.proofs.Lists.{same-test, member-first, member-later, first-or-later, member-keep, once-keep, once-same-length}
-use Rattle.palindromes.proofs.Words.{stands-or-not}
+use Rattle.palindromes.proofs.Words.{some-letters, stands-or-not}
 use Rattle.palindromes.proofs.Places.{stands-empty}
 use Rattle.palindromes.proofs.Growth.{around-inner, inner-of}
 use Rattle.palindromes.proofs.Palindromes.{palindromes-true, palindromes-is, palindromes-once}
@@ -33,15 +33,6 @@ use Rattle.eertree.proofs.Grow.{OneMore, same-added, one-more-added, sa
 -- those of the list that have length k
 abbrev ofLength : ℕ → List Word → List Word
 ofLength k l = keep (λ p. eqb (length p) k) l
-
--- a palindrome of the list that has length k, and the other way round
-of-length-true : (k : ℕ) (w : Word) (l : List Word) → member w (ofLength k l) ≡ true → (member w l ≡ true) × (length w ≡ k)
-of-length-true k w l m =
-    let h = both-true (member w l) (eqb (length w) k) (sym (member-keep w (λ p. eqb (length p) k) l) ∙ m) in
-    (h .0, eqb-true (length w) k (h .1))
-
-of-length-is : (k : ℕ) (w : Word) (l : List Word) → member w l ≡ true → length w ≡ k → member w (ofLength k l) ≡ true
-of-length-is k w l m e = member-keep w (λ p. eqb (length p) k) l ∙ both-are (member w l) (eqb (length w) k) m (eq-eqb (length w) k e)
 
 -- ---- the palindromes stay
 
@@ -90,6 +81,10 @@ module _ {σ : ℕ → ℕ} {s t w : Word} (o : OneMore σ s t w) where
   -- it is a palindrome, since the empty word stands everywhere
   pub more-palindrome : Palindrome σ w
   more-palindrome = record { non-empty = λ e. o .not-before (rw e (stands-empty s)); symmetric = o .symmetric }
+
+  -- so it has a letter
+  pub more-letters : 0 < length w
+  more-letters = some-letters w (more-palindrome .non-empty)
 
   -- it is not listed before
   more-new : member w (palindromes σ s) ≡ false

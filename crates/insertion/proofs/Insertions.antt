@@ -1,10 +1,10 @@
 -- The next free row of a good store, the length of the palindrome that comes in, and the bytes that are left where it is inserted: the writes of the code are those that the definitions name
--- (`added-new`). Rests on the laws of a good store (`Rows` of transitions), on `longest-at`, and on the laws of what is carried (`Carrying` of length_counts).
+-- (`added-new`). Rests on the laws of a good store (`Rows` and `AddedWord` of transitions) and on the laws of what is carried (`Carrying` of length_counts).
 use Prim.Native.Nat.{ℕ, _+_, _*_, _≤_, _<_}
 use native.Mathlib.Decide.{decLt}
 use native.Mathlib.Omega.{arith}
 use mathlib.Core.Path.{_≡_, refl, ap, _∙_}
-use mathlib.Core.Bool.{true, cond}
+use mathlib.Core.Bool.{cond}
 use mathlib.Core.Logic.{_≢_}
 use lib.Dec.{eqb}
 use lib.IntN.{pos}
@@ -15,20 +15,17 @@ use mir.Val.{toZ, ofZ}
 use Rattle.palindromes.specs.Word.{Word}
 use Rattle.palindromes.specs.End.{End, other, added}
 use Rattle.palindromes.specs.Node.{lengthOf}
-use Rattle.palindromes.proofs.Words.{stands-length, added-length}
-use Rattle.palindromes.proofs.NewIn.{longest-at}
-use Rattle.palindromes.proofs.Readings.{rule-inverse}
-use Rattle.store.specs.Layout.{cellAt, cell, capacityIn, sizeIn, countIn, readingIn, endRow, longestLengthIn, edgeCell, orderIn, lengthCountIn, lettersAt, lettersIn}
-use Rattle.store.specs.Good.{ruleOf, Good}
+use Rattle.store.specs.Layout.{cellAt, cell, capacityIn, sizeIn, countIn, endRow, longestLengthIn, edgeCell, orderIn, lengthCountIn, lettersAt, lettersIn}
+use Rattle.store.specs.Good.{Good}
 use Rattle.store.specs.Writes.{writes}
 use Rattle.store.specs.declared.rows.Row.{Row}
 use Rattle.store.proofs.Signed.{kept}
-use Rattle.store.proofs.Sizes.{letters-length}
 use Rattle.store.proofs.Edges.{edge-high}
 use Rattle.store.proofs.Writes.{Apart, cell-apart, cell-sets}
 use Rattle.transitions.specs.Rows.{freeRow}
-use Rattle.transitions.specs.Addition.{longestAfter, bringsIn, rowAfter, hangWrites, gainWrites, settleWrites, additionWrites, afterAddition}
+use Rattle.transitions.specs.Addition.{longestAfter, rowAfter, hangWrites, gainWrites, settleWrites, additionWrites, afterAddition}
 use Rattle.transitions.proofs.Rows.{count-most, row-fits, free-below}
+use Rattle.transitions.proofs.AddedWord.{longest-room}
 use Rattle.growth.specs.Steps.{FreshIs}
 use Rattle.ends.specs.Steps.{endWrites}
 use Rattle.length_counts.specs.Steps.{Gained}
@@ -51,14 +48,7 @@ free-is b e f = f ∙ ap (orderIn b) e
 
 -- ---- the length of the palindrome that comes in
 
--- the store has room for it
-pub longest-room : {b : Word} → Good b → sizeIn b < capacityIn b → (e : End) (c : ℕ) → length (longestAfter e c b) ≤ capacityIn b
-unfolding longestAfter
-longest-room {b} g h e c =
-    let t = added e c (lettersIn b) in
-    omega (arith, stands-length (longest-at (ruleOf b) (rule-inverse (readingIn b)) e t .1), added-length e c (lettersIn b), letters-length (g .sized))
-
--- it is the length that the row is to say
+-- it is what the row is to say
 pub length-new : {b : Word} {e : End} {c : ℕ} {row : Row} → FreshIs b e c row → toZ w32 (ofZ w32 (row .length)) ≡ pos (length (longestAfter e c b))
 unfolding lengthOf
 length-new f = kept (f .row-for .small) ∙ f .row-for .length-is
@@ -91,10 +81,10 @@ module _ (b : Word) (w : Word) (at : ℕ) (row : Row) (r count : ℕ) where
 
 module _ {b : Word} (g : Good b) (room : sizeIn b < capacityIn b) (e : End) (c : ℕ) where
   -- what is carried for the length of the palindrome, and the largest length, before it is counted
-  carried-before : (row : Row) (r count : ℕ) (w q : Word) → bringsIn e c b ≡ true → q ≡ writes (sets b (lettersAt (capacityIn b)) w) (rowHung row r count)
+  carried-before : (row : Row) (r count : ℕ) (w q : Word) → q ≡ writes (sets b (lettersAt (capacityIn b)) w) (rowHung row r count)
       → (lengthCountIn q (length (longestAfter e c b)) ≡ lengthCountIn b (length (longestAfter e c b))) × (longestLengthIn q ≡ longestLengthIn b)
   unfolding lengthCountIn longestLengthIn
-  carried-before row r count w q t h =
+  carried-before row r count w q h =
       let k = carried-kept b w (lettersAt (capacityIn b)) row r count in
       let l = longest-room g room e c in
       rw h (k (length (longestAfter e c b) + 1) (omega arith) (omega arith), k 1 (omega arith) (omega (arith, g .sized .at-least-one)))
@@ -106,7 +96,7 @@ module _ {b : Word} (g : Good b) (room : sizeIn b < capacityIn b) (e : End) (c :
   added-new {q = q} {count = count} {r} {row = row} i j k m f y hp hq hg hz =
       let l = longest-room g room e c in
       let v = longestAfter e c b in
-      let before = carried-before row r count (added e c (lettersIn b)) q (f .new) (cc) in
+      let before = carried-before row r count (added e c (lettersIn b)) q (cc) in
       let n = gained-count g l e c (f .new) refl in
       let o = gained-longest g l e c (f .new) refl in
       rw (f .new) (cc (f .row-for .length-is, f .row-for .link-is, f .row-for .inner-is, f .row-for .outer-is, hg (length v) refl, before .0, before .1, n, o))

@@ -1,36 +1,33 @@
 -- What a good store carries of lengths lies within it (`count-fits`, `counted-room`), and tells what is carried after a change: with one palindrome more (`gained-count`, `gained-longest`) or one less
 -- (`lost-count`), and the largest length without it, by what is carried for its length and for one letter less (`longer-left` to `two-less-left`). Last, the length of a row's palindrome by the number
--- that stores it. Rests on the laws of a good store (`Rows` of transitions), on `one-more-added`, on `RemovedWord` and on `Lowering`.
+-- that stores it. Rests on the laws of a good store (`Rows` of transitions), on `AddedWord` and `RemovedWord`, and on `Lowering`.
 use Prim.Native.Nat.{ℕ, suc, _+_, _*_, _-_, _≤_, _<_, max}
 use native.Mathlib.Omega.{arith}
 use mathlib.Core.Path.{_≡_, ap, _∙_}
 use mathlib.Core.Bool.{true}
 use lib.IntN.{ℤ, pos, predℤ}
 use lib.ListN.{length}
-use borrow.Author.Tests.{not-true}
 use Rattle.palindromes.specs.Word.{Word}
-use Rattle.palindromes.specs.Place.{stands}
 use Rattle.palindromes.specs.Record.{countOfLength, longestLength}
 use Rattle.palindromes.specs.End.{End, added, removed}
 use Rattle.palindromes.proofs.Words.{some-letters}
-use Rattle.palindromes.proofs.Places.{stands-false}
-use Rattle.palindromes.proofs.Readings.{rule-inverse}
 use Rattle.palindromes.proofs.Order.{longest-length-fits}
 use Rattle.palindromes.proofs.Lengths.{length-counted, counted-most}
 use Rattle.eertree.proofs.Rows.{reachOf, row-reach, word-row}
-use Rattle.eertree.proofs.Grow.{OneMore, one-more-added}
-use Rattle.eertree.proofs.Lengths.{more-longest}
-use Rattle.store.specs.Layout.{capacityIn, readingIn, endRow, longestLengthIn, lengthIn, usedIn, lengthCountIn, lettersIn}
+use Rattle.eertree.proofs.Grow.{OneMore}
+use Rattle.eertree.proofs.Lengths.{more-letters, more-longest}
+use Rattle.store.specs.Layout.{capacityIn, endRow, longestLengthIn, lengthIn, usedIn, lengthCountIn, lettersIn}
 use Rattle.store.specs.Good.{ruleOf, nodeIn, Good}
 use Rattle.store.specs.Lengths.{Stored}
 use Rattle.store.proofs.Sizes.{letters-length}
 use Rattle.transitions.specs.Addition.{longestAfter, bringsIn}
 use Rattle.transitions.specs.Removal.{longestBefore, takesOut}
 use Rattle.transitions.proofs.Rows.{covers, row-fits}
+use Rattle.transitions.proofs.AddedWord.{brought}
 use Rattle.transitions.proofs.RemovedWord.{one-less}
 use Rattle.transitions.proofs.RemovedBytes.{end-holds}
 use Rattle.length_counts.specs.Steps.{LengthIn, Lowered}
-use Rattle.length_counts.proofs.Lowering.{some-length, one-of-length, longer-stay, equals-stay, none-stays, one-shorter, two-shorter}
+use Rattle.length_counts.proofs.Lowering.{one-of-length, longer-stay, equals-stay, none-stays, one-shorter, two-shorter}
 
 -- ---- what is carried for a length
 
@@ -56,23 +53,17 @@ module _ {b : Word} (g : Good b) (k : ℕ) where
 
 -- for the length of a palindrome that comes or goes, what is carried is how many have it
 counted-for : {b s t w : Word} (g : Good b) → OneMore (ruleOf b) s t w → {k : ℕ} → k ≤ capacityIn b → k ≡ length w → lengthCountIn b k ≡ countOfLength (ruleOf b) (length w) (lettersIn b)
-counted-for {b} g o {k} room i = g .length-counts k (omega (arith, some-length o)) room ∙ ap (λ j. countOfLength (ruleOf b) j (lettersIn b)) i
+counted-for {b} g o {k} room i = g .length-counts k (omega (arith, more-letters o)) room ∙ ap (λ j. countOfLength (ruleOf b) j (lettersIn b)) i
 
 -- ---- one palindrome more
-
--- the letter brings in the longest at its end
-gain : (e : End) (c : ℕ) (b : Word) → bringsIn e c b ≡ true → OneMore (ruleOf b) (lettersIn b) (added e c (lettersIn b)) (longestAfter e c b)
-unfolding bringsIn longestAfter
-gain e c b t =
-    one-more-added (ruleOf b) (rule-inverse (readingIn b)) e (lettersIn b) c (stands-false (longestAfter e c b) (lettersIn b) (not-true (stands (longestAfter e c b) (lettersIn b)) t))
 
 module _ {b : Word} (g : Good b) {k : ℕ} (room : k ≤ capacityIn b) where
   module _ (e : End) (c : ℕ) (t : bringsIn e c b ≡ true) (i : k ≡ length (longestAfter e c b)) where
     pub gained-count : countOfLength (ruleOf b) (length (longestAfter e c b)) (added e c (lettersIn b)) ≡ lengthCountIn b k + 1
-    gained-count = let o = gain e c b t in omega (arith, one-of-length o, counted-for g o room i)
+    gained-count = let o = brought e c b t in omega (arith, one-of-length o, counted-for g o room i)
 
     pub gained-longest : longestLength (ruleOf b) (added e c (lettersIn b)) ≡ max (longestLengthIn b) k
-    gained-longest = omega (arith, g .longest-is, more-longest (gain e c b t))
+    gained-longest = omega (arith, g .longest-is, more-longest (brought e c b t))
 
   -- ---- one palindrome less
 

@@ -10,10 +10,9 @@ use lib.ListN.{length}
 use borrow.Author.Tests.{eq-eqb}
 use Rattle.palindromes.specs.Word.{Word}
 use Rattle.palindromes.specs.Record.{countOfLength, longestLength}
-use Rattle.palindromes.proofs.Words.{some-letters}
 use Rattle.palindromes.proofs.Lengths.{counted-most, longest-counted}
 use Rattle.eertree.proofs.Grow.{OneMore}
-use Rattle.eertree.proofs.Lengths.{more-palindrome, more-length-count, other-length-count, more-longest, two-more-at-most}
+use Rattle.eertree.proofs.Lengths.{more-letters, more-length-count, other-length-count, more-longest, two-more-at-most}
 
 -- a length that no palindrome has is not the largest
 not-longest : (σ : ℕ → ℕ) (s : Word) (j : ℕ) → 0 < j → countOfLength σ j s ≡ 0 → longestLength σ s ≢ j
@@ -22,10 +21,6 @@ not-longest σ s j l z e =
     omega arith
 
 module _ {σ : ℕ → ℕ} {s t w : Word} (o : OneMore σ s t w) where
-  -- it has a letter
-  pub some-length : 0 < length w
-  some-length = some-letters w (more-palindrome o .non-empty)
-
   -- it is one of its length
   pub one-of-length : countOfLength σ (length w) t ≡ countOfLength σ (length w) s + 1
   one-of-length = omega (arith, more-length-count o (length w), ap {B = ℕ} (λ b. cond b 1 0) (eq-eqb (length w) (length w) refl))
@@ -42,7 +37,7 @@ module _ {σ : ℕ → ℕ} {s t w : Word} (o : OneMore σ s t w) where
     -- no other is as long
     module _ (h : countOfLength σ (length w) t ≤ 1) where
       all-shorter : longestLength σ s < length w
-      all-shorter = omega (arith, more-longest o, not-longest σ s (length w) some-length (omega (arith, one-of-length)))
+      all-shorter = omega (arith, more-longest o, not-longest σ s (length w) (more-letters o) (omega (arith, one-of-length)))
 
       pub none-stays : length w < 2 → 0 ≡ longestLength σ s
       none-stays k = omega (arith, all-shorter)

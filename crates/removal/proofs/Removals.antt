@@ -16,7 +16,6 @@ use Rattle.palindromes.specs.Place.{stands}
 use Rattle.palindromes.specs.Record.{longestSuffix}
 use Rattle.palindromes.specs.End.{End, other, removed, letterAt, longestAt}
 use Rattle.palindromes.specs.Node.{spelt, lengthOf}
-use Rattle.palindromes.proofs.Words.{stands-length}
 use Rattle.palindromes.proofs.NewIn.{longest-at}
 use Rattle.palindromes.proofs.Readings.{rule-inverse}
 use Rattle.palindromes.proofs.Letters.{letter-byte}
@@ -74,17 +73,6 @@ module _ {b : Word} (g : Good b) (e : End) where
   pub end-length : lengthIn b (endRow b e) ≡ pos (length (longestBefore e b))
   unfolding lengthOf
   end-length = g .table .length-is (endRow b e) (g .ends e .used) ∙ ap lengthOf (end-holds e g)
-
-  -- which the store has room for
-  pub end-room : length (longestBefore e b) ≤ capacityIn b
-  unfolding longestBefore
-  end-room =
-      omega (
-        arith,
-        stands-length (longest-at (ruleOf b) (rule-inverse (readingIn b)) e (lettersIn b) .1),
-        letters-length (g .sized),
-        g .sized .letters-fit,
-      )
 
   -- so all that the code reads is what the definitions name
   pub parted : {base n row last link letter x : ℕ} {met : Bool} → base ≡ lettersAt (capacityIn b) → n ≡ sizeIn b → row ≡ endRow b e

@@ -15,15 +15,16 @@ use Rattle.palindromes.specs.Place.{Stands, stands}
 use Rattle.palindromes.specs.End.{End, atRight, added, letterAt}
 use Rattle.palindromes.specs.Node.{Node, imaginary, spelt, linkOf, innerOf, spellingOf, around}
 use Rattle.palindromes.proofs.Tests.{both-are}
-use Rattle.palindromes.proofs.Words.{some-letters, stands-length, added-length}
+use Rattle.palindromes.proofs.Words.{stands-length, added-length}
 use Rattle.palindromes.proofs.Longest.{longest-suffix}
-use Rattle.palindromes.proofs.Places.{stands-true, stands-false, stands-empty}
+use Rattle.palindromes.proofs.Places.{stands-true, stands-false}
 use Rattle.palindromes.proofs.NewIn.{longest-at}
 use Rattle.palindromes.proofs.Growth.{inner-of, link-stands, around-inner}
 use Rattle.palindromes.proofs.Readings.{rule-inverse}
 use Rattle.eertree.specs.Covers.{NodeOf}
 use Rattle.eertree.proofs.Rows.{reachOf, link-reach, inner-reach}
 use Rattle.eertree.proofs.Grow.{OneMore, one-more-added}
+use Rattle.eertree.proofs.Lengths.{more-palindrome, more-letters}
 use Rattle.store.specs.Layout.{capacityIn, sizeIn, readingIn, usedIn, lettersIn}
 use Rattle.store.specs.Good.{ruleOf, nodeIn, Good}
 use Rattle.store.proofs.Sizes.{letters-length}
@@ -41,10 +42,6 @@ link-of σ [] m p = (m, p)
 link-of σ (x ∷ w) m p = (longest-suffix σ w .symmetric, link-stands σ p)
 
 module _ {σ : ℕ → ℕ} {s t w : Word} (o : OneMore σ s t w) where
-  -- it is not empty, since the empty word stands everywhere
-  more-not-empty : w ≡ [] → ⊥
-  more-not-empty e = o .not-before (rw e (stands-empty s))
-
   -- a node of t that is shorter is a node of s
   shorter-old : (v : Node) → Symmetric σ (spellingOf v) × Stands (spellingOf v) t → reachOf v < reachOf (spelt w) → NodeOf σ s v
   unfolding spellingOf
@@ -62,7 +59,20 @@ module _ {σ : ℕ → ℕ} {s t w : Word} (o : OneMore σ s t w) where
   pub link-old : NodeOf σ s (linkOf σ (spelt w))
   link-old = shorter-old (linkOf σ (spelt w)) (link-of σ w (o .symmetric) (o .there)) (link-reach σ (spelt w) not-imaginary)
 
--- ---- an accepted addition
+-- ---- an addition
+
+-- where the longest palindrome at the call's end stood nowhere, the record has it more
+pub brought : (e : End) (c : ℕ) (b : Word) → bringsIn e c b ≡ true → OneMore (ruleOf b) (lettersIn b) (added e c (lettersIn b)) (longestAfter e c b)
+unfolding bringsIn longestAfter
+brought e c b k = one-more-added (ruleOf b) (rule-inverse (readingIn b)) e (lettersIn b) c (stands-false (longestAfter e c b) (lettersIn b) (not-true (stands (longestAfter e c b) (lettersIn b)) k))
+
+-- it stands in the letters after the addition, so a store that has room for the letter has room for it
+longest-in : (e : End) (c : ℕ) (b : Word) → Symmetric (ruleOf b) (longestAfter e c b) × Stands (longestAfter e c b) (added e c (lettersIn b))
+unfolding longestAfter
+longest-in e c b = longest-at (ruleOf b) (rule-inverse (readingIn b)) e (added e c (lettersIn b))
+
+pub longest-room : {b : Word} → Good b → sizeIn b < capacityIn b → (e : End) (c : ℕ) → length (longestAfter e c b) ≤ capacityIn b
+longest-room {b} g h e c = omega (arith, stands-length (longest-in e c b .1), added-length e c (lettersIn b), letters-length (g .sized))
 
 -- what an addition asks for: a good store, a letter, and room for it
 pub record Accepted (e : End) (c : ℕ) (b : Word) : Type 0 where
@@ -90,11 +100,10 @@ module _ {e : End} {c : ℕ} {b : Word} (a : Accepted e c b) where
 
   -- the longest palindrome at the call's end stands in them, and has room in the store
   pub longest-stands : Symmetric (ruleOf b) (longestAfter e c b) × Stands (longestAfter e c b) (added e c (lettersIn b))
-  unfolding longestAfter
-  longest-stands = longest-at (ruleOf b) (rule-inverse (readingIn b)) e (added e c (lettersIn b))
+  longest-stands = longest-in e c b
 
   pub longest-fits : length (longestAfter e c b) ≤ capacityIn b
-  longest-fits = omega (arith, stands-length (longest-stands .1), length-after, a .room)
+  longest-fits = longest-room (a .good) (a .room) e c
 
   -- it stood before, and then its row is used
   pub stood : bringsIn e c b ≡ false → Stands (longestAfter e c b) (lettersIn b)
@@ -107,8 +116,7 @@ module _ {e : End} {c : ℕ} {b : Word} (a : Accepted e c b) where
   module _ (k : bringsIn e c b ≡ true) where
     -- or the record has it more
     pub one-more : OneMore (ruleOf b) (lettersIn b) (added e c (lettersIn b)) (longestAfter e c b)
-    unfolding bringsIn longestAfter
-    one-more = one-more-added (ruleOf b) (rule-inverse (readingIn b)) e (lettersIn b) c (stands-false (longestAfter e c b) (lettersIn b) (not-true (stands (longestAfter e c b) (lettersIn b)) k))
+    one-more = brought e c b k
 
     -- and then the rows of its inner node and of its link are used
     pub inner-found : (usedIn b (innerRow e c b) ≡ true) × (nodeIn b (innerRow e c b) ≡ innerOf (spelt (longestAfter e c b)))
@@ -119,12 +127,12 @@ module _ {e : End} {c : ℕ} {b : Word} (a : Accepted e c b) where
 
     -- it has a letter
     pub longer-than-none : 0 < length (longestAfter e c b)
-    longer-than-none = some-letters (longestAfter e c b) (more-not-empty one-more)
+    longer-than-none = more-letters one-more
 
     -- its last letter is a letter
     pub last-letter : isLetter (lastLetter e c b) ≡ true
-    last-letter = letter-at-end atRight (longestAfter e c b) (more-not-empty one-more) (letters-piece (longest-stands .1) letters-after)
+    last-letter = letter-at-end atRight (longestAfter e c b) (more-palindrome one-more .non-empty) (letters-piece (longest-stands .1) letters-after)
 
     -- and it is the word around its inner row by that letter
     pub word-around : longestAfter e c b ≡ around (ruleOf b) (lastLetter e c b) (nodeIn b (innerRow e c b))
-    word-around = cc (around-inner (ruleOf b) (longestAfter e c b) (more-not-empty one-more) (longest-stands .0), inner-found .1)
+    word-around = cc (around-inner (ruleOf b) (longestAfter e c b) (more-palindrome one-more .non-empty) (longest-stands .0), inner-found .1)

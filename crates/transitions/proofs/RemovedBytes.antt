@@ -16,12 +16,12 @@ use Rattle.palindromes.specs.Word.{Word}
 use Rattle.palindromes.specs.Record.{countOfLength, longestLength}
 use Rattle.palindromes.specs.End.{End, other, removed, longestAt}
 use Rattle.palindromes.specs.Node.{spelt}
-use Rattle.palindromes.proofs.Words.{some-letters, stands-length}
+use Rattle.palindromes.proofs.Words.{stands-length}
 use Rattle.palindromes.proofs.Palindromes.{count-length}
 use Rattle.palindromes.proofs.Order.{longest-length-fits}
 use Rattle.palindromes.proofs.Lengths.{length-count-most}
 use Rattle.eertree.proofs.Shrink.{leaf-high}
-use Rattle.eertree.proofs.Lengths.{more-palindrome, more-length-count, more-longest}
+use Rattle.eertree.proofs.Lengths.{more-letters, more-length-count, more-longest}
 use Rattle.store.specs.Layout.{cell, capacityIn, sizeIn, countIn, readingIn, endCell, endRow, linkIn, innerIn, outerIn, edgeCell, edgeIn, orderIn, rankIn, lengthCountIn, longestLengthIn, lettersAt, lettersIn}
 use Rattle.store.specs.Good.{ruleOf, nodeIn, Good}
 use Rattle.store.specs.Writes.{Write}
@@ -83,10 +83,10 @@ module _ (e : End) {b : Word} (g : Good b) where
     )
 
     -- it has a letter, and no more than there is room for
-    gone-length : (0 < length (longestBefore e b)) × (length (longestBefore e b) ≤ capacityIn b)
+    pub gone-length : (0 < length (longestBefore e b)) × (length (longestBefore e b) ≤ capacityIn b)
     gone-length =
         let o = one-less e g k in
-        (some-letters (longestBefore e b) (more-palindrome o .non-empty), omega (arith, stands-length (o .there), letters-length (g .sized), g .sized .letters-fit))
+        (more-letters o, omega (arith, stands-length (o .there), letters-length (g .sized), g .sized .letters-fit))
 
     -- what is carried without it is not above what was
     carried-small :

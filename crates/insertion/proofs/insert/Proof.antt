@@ -11,8 +11,9 @@ use Rattle.walk.proofs.Stores.{header-fits, store-long}
 use Rattle.transitions.specs.Rows.{freeRow}
 use Rattle.transitions.specs.Addition.{longestAfter}
 use Rattle.transitions.proofs.Rows.{used-fits}
+use Rattle.transitions.proofs.AddedWord.{longest-room}
 use Rattle.length_counts.proofs.Carrying.{count-fits}
-use Rattle.insertion.proofs.Insertions.{place-fits, free-fits, free-is, longest-room, length-new, added-new}
+use Rattle.insertion.proofs.Insertions.{place-fits, free-fits, free-is, length-new, added-new}
 use Rattle.insertion.proofs.insert.Statement.{statement}
 use Rattle.insertion.proofs.insert.Tie as tie
 

@@ -10,10 +10,10 @@ use Rattle.store.specs.Good.{ruleOf}
 use Rattle.store.specs.Side.{endOf}
 use Rattle.walk.proofs.Stores.{header-fits, framed-within}
 use Rattle.transitions.specs.Removal.{longestBefore, takesOut}
-use Rattle.transitions.proofs.RemovedBytes.{gone-high}
+use Rattle.transitions.proofs.RemovedBytes.{gone-high, gone-length}
 use Rattle.length_counts.specs.Steps.{CarriedFor}
 use Rattle.length_counts.proofs.Carrying.{count-fits}
-use Rattle.removal.proofs.Removals.{end-room, leaf-left, removed-gone}
+use Rattle.removal.proofs.Removals.{leaf-left, removed-gone}
 use Rattle.removal.proofs.take_out.Statement.{statement}
 use Rattle.removal.proofs.take_out.Tie as tie
 
@@ -85,7 +85,7 @@ put-requires c κs =
     let e = endOf (s .args .side) in
     omega (
       arith,
-      count-fits g (length (longestBefore e (s .args .b .now))) (end-room g e),
+      count-fits g (length (longestBefore e (s .args .b .now))) (gone-length e g (goes s) .1),
       carried (at-without left) .length-is,
       left .leave .kept,
       freed .free .kept,
