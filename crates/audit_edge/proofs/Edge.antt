@@ -1,4 +1,4 @@
--- The row that an edge leads to, in a good store; and the letters that code reads towards the right. Rests on the laws of a good store and of frames (`Stores` of walk).
+-- The row that an edge leads to, in a good store. Rests on the laws of a good store.
 use Prim.Native.Nat.{ℕ}
 use mathlib.Core.Path.{_≡_}
 use mathlib.Core.Bool.{true}
@@ -7,14 +7,9 @@ use Rattle.palindromes.specs.Node.{spelt, around}
 use Rattle.palindromes.proofs.Growth.{around-injective}
 use Rattle.eertree.proofs.Covers.{around-not-empty}
 use Rattle.eertree.proofs.Rows.{row-high}
-use Rattle.store.specs.Layout.{innerIn, outerIn, usedIn, lettersIn}
+use Rattle.store.specs.Layout.{innerIn, outerIn, usedIn}
 use Rattle.store.specs.Good.{ruleOf, nodeIn, Good}
-use Rattle.store.specs.Writes.{towards}
-use Rattle.store.specs.declared.letters.Side.the-variants.{Right}
 use Rattle.store.proofs.Sizes.{used-below}
-use Rattle.walk.specs.Frame.{Frames, seenIn}
-use Rattle.walk.specs.declared.frame.Frame.{Frame}
-use Rattle.walk.proofs.Stores.{framed-letters}
 use Rattle.transitions.proofs.Rows.{covers}
 use Rattle.audit_edge.specs.Edge.{PointsBack}
 
@@ -25,8 +20,3 @@ good-names {b} g u d q v m e =
     let i : around (ruleOf b) (outerIn b q) (nodeIn b (innerIn b q)) ≡ around (ruleOf b) d (nodeIn b u) = cc (covers g .outer-is q m l, e) in
     let j = around-injective (ruleOf b) (outerIn b q) d (nodeIn b (innerIn b q)) (nodeIn b u) i in
     record { low = l; high = used-below b q m; inner = g .table .one-row (innerIn b q) u (covers g .inner-is q m .0) v (j .1); outer = j .0 }
-
--- the letters that the frame of a store shows towards the right are the store's
-pub framed-right : {b : Word} {f : Frame} → Frames b f → seenIn b f Right ≡ lettersIn b
-unfolding towards
-framed-right h = framed-letters h Right

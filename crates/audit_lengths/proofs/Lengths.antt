@@ -9,16 +9,16 @@ use mathlib.Core.List.{[]}
 use lib.ListN.{length, getD}
 use borrow.Author.Tests.{eq-eqb}
 use Rattle.palindromes.specs.Word.{Word}
-use Rattle.palindromes.specs.Record.{countOfLength, longestLength}
+use Rattle.palindromes.specs.Record.{countOfLength}
 use Rattle.palindromes.proofs.Answers.{longest-length-empty}
 use Rattle.palindromes.proofs.Palindromes.{count-length}
 use Rattle.palindromes.proofs.Lengths.{length-count-empty, length-count-most}
 use Rattle.eertree.proofs.Covers.{SamePalindromes}
 use Rattle.eertree.proofs.Grow.{OneMore}
 use Rattle.eertree.proofs.Lengths.{same-length-count, same-longest, more-length-count, other-length-count, more-longest}
-use Rattle.store.specs.Layout.{cell, capacityIn, lengthCountIn, longestLengthIn, lettersIn}
+use Rattle.store.specs.Layout.{cell, capacityIn, lengthCountIn, lettersIn}
 use Rattle.store.specs.Good.{ruleOf, Sized, Good}
-use Rattle.audit_lengths.specs.Lengths.{LengthsOf, Counted, LengthsRight}
+use Rattle.audit_lengths.specs.Lengths.{LengthsOf, Counted}
 
 -- the empty word has none
 pub lengths-empty : (σ : ℕ → ℕ) {carried : Word} → length carried ≡ 1026 → ((i : ℕ) → getD carried i 0 ≡ 0) → LengthsOf σ [] carried
@@ -46,21 +46,13 @@ count-small {σ} {p} k h i j l = omega (arith, h .counts k i j, length-count-mos
 
 module _ {b carried : Word} (z : Sized b) (h : LengthsOf (ruleOf b) (lettersIn b) carried) where
   -- a store that carries what was counted
-  pub right-counts : LengthsRight b carried → (k : ℕ) → 1 ≤ k → k ≤ capacityIn b → lengthCountIn b k ≡ countOfLength (ruleOf b) k (lettersIn b)
+  pub right-counts : ((r : ℕ) → 2 ≤ r → r < capacityIn b + 2 → cell b r 10 ≡ getD carried r 0) → (k : ℕ) → 1 ≤ k → k ≤ capacityIn b → lengthCountIn b k ≡ countOfLength (ruleOf b) k (lettersIn b)
   unfolding lengthCountIn
   right-counts r k i j = r (k + 1) (omega arith) (omega arith) ∙ h .counts k i (omega (arith, z .at-most))
 
-  pub right-longest : LengthsRight b carried → longestLengthIn b ≡ longestLength (ruleOf b) (lettersIn b)
-  unfolding longestLengthIn
-  right-longest r = r 1 (omega arith) (omega arith) ∙ h .longest
-
   -- as a good one does
-  pub good-lengths : Good b → LengthsRight b carried
-  unfolding lengthCountIn longestLengthIn
-  good-lengths g r i j = go (ℕ-discrete r 1)
-    where
-      go : Dec (r ≡ 1) → cell b r 10 ≡ getD carried r 0
-      go (yes e) = rw e (g .longest-is ∙ sym (h .longest))
-      go (no e) =
-          let k : r - 1 + 1 ≡ r = omega arith in
-          rw (← k) (g .length-counts (r - 1) (omega arith) (omega arith) ∙ sym (h .counts (r - 1) (omega arith) (omega (arith, z .at-most))))
+  pub good-counts : Good b → (r : ℕ) → 2 ≤ r → r < capacityIn b + 2 → cell b r 10 ≡ getD carried r 0
+  unfolding lengthCountIn
+  good-counts g r i j =
+      let k : r - 1 + 1 ≡ r = omega arith in
+      rw (← k) (g .length-counts (r - 1) (omega arith) (omega arith) ∙ sym (h .counts (r - 1) (omega arith) (omega (arith, z .at-most))))

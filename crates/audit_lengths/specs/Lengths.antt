@@ -6,7 +6,7 @@ use mathlib.Core.Logic.{_≢_}
 use lib.ListN.{length, getD}
 use Rattle.palindromes.specs.Word.{Word}
 use Rattle.palindromes.specs.Record.{countOfLength, longestLength}
-use Rattle.store.specs.Layout.{cell, capacityIn}
+use Rattle.store.specs.Layout.{cell}
 
 -- the lengths of the palindromes of p
 pub record LengthsOf (σ : ℕ → ℕ) (p carried : Word) : Type 0 where
@@ -27,7 +27,3 @@ pub record Counted (carried : Word) (m : ℕ) (carried′ : Word) : Type 0 where
   pub here : getD carried′ m 0 ≡ getD carried m 0 + 1
   pub largest : getD carried′ 1 0 ≡ max (getD carried 1 0) (m - 1)
   pub others : (i : ℕ) → i ≢ 1 → i ≢ m → getD carried′ i 0 ≡ getD carried i 0
-
--- the store carries what was counted: beside row 1 the largest length, and beside row k + 1 how many have length k
-abbrev pub LengthsRight : Word → Word → Type 0
-LengthsRight b carried = (r : ℕ) → 1 ≤ r → r < capacityIn b + 2 → cell b r 10 ≡ getD carried r 0

@@ -3,13 +3,9 @@
 // length at place 1.
 ghost use mathlib.Core.Path.{_≡_};
 ghost use Prim.Native.Nat.{_<_};
-ghost use lib.ListN.{length};
+ghost use lib.ListN.{length, getD};
 ghost use Rattle.store.specs.Layout.{cell};
-ghost use Rattle.store.specs.Good.{Sized};
-ghost use Rattle.audit_fixed.specs.Decides.{Decides};
-ghost use Rattle.audit_lengths.specs.Lengths.{Countable, Counted, LengthsRight};
-use store::cells;
-use store::header;
+ghost use Rattle.audit_lengths.specs.Lengths.{Countable, Counted};
 use store::lengths;
 use store::rows;
 
@@ -33,19 +29,10 @@ fn wide(x: u16) -> usize
     x as usize
 }
 
-// Whether the store carries what was counted.
-pub fn lengths_right(b: &[u8], carried: &[u16]) -> bool
-    requires { ⌜ Sized (now b) ⌝ }
-    requires { ⌜ length (now carried) ≡ 1026 ⌝ }
-    ensures { λ v. ⌜ Decides v (LengthsRight (now (b .entry)) (now (carried .entry))) ⌝ }
+// What was counted at a place.
+pub fn counted_at(carried: &[u16], place: usize) -> usize
+    requires { ⌜ place < length (now carried) ⌝ }
+    ensures { λ r. ⌜ r ≡ getD (now (carried .entry)) place 0 ⌝ }
 {
-    let end = header::capacity(b) + 2;
-    let mut r = 1;
-    while r < end {
-        if cells::get(b, r, 10) != wide(carried[r]) {
-            return false;
-        }
-        r += 1;
-    }
-    true
+    wide(carried[place])
 }

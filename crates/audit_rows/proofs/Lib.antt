@@ -1,2 +1,5 @@
--- laws of the rows once the tour is over
-pub mod Rows
+-- laws of what is tested and counted: the places of the order, from the ranks; edges that lead somewhere, and rows that say something; and numbers of each letter
+pub mod Places
+pub mod Edges
+pub mod Filled
+pub mod Letters

@@ -2,33 +2,32 @@
 -- `tour-none`); along its edge the tour comes to a row met before (`tour-old`) or to one that is right and is now met (`tour-new`). In a good store every test on the way
 -- passes (`good-back`, `good-new`), since each row met is in use and holds what it holds in the whole table.
 -- Rests on the replay of eertree (`read-none`, `read-old`, `read-new`, `step-there`), on what a walk finds (`Found` of walk) and on the laws of a good store.
-use Prim.Native.Nat.{ℕ, zero, suc, _+_, _≤_, _<_}
+use Prim.Native.Nat.{ℕ, zero, suc, _+_, _*_, _≤_, _<_}
 use native.Mathlib.Numerals.{add-one}
 use native.Mathlib.Omega.{arith}
 use mathlib.Core.Path.{_≡_, refl, sym, ap, _∙_, subst}
-use mathlib.Core.Bool.{Bool, true, false, cond}
+use mathlib.Core.Bool.{Bool, true, false}
 use mathlib.Core.Logic.{⊎-elim}
 use mathlib.Core.List.{[], _∷_, _++_}
-use lib.Dec.{eqb, leb}
+use lib.Dec.{eqb}
 use lib.IntN.{pos, predℤ}
 use lib.ListN.{length, getD, drop, set, length-append, length-set, take-append-drop}
 use lib.Seq.{length-take-le, take-suc}
-use borrow.Author.Tests.{eqb-true, eq-eqb, ne-eqb, leb-true, leb-false, lt-ltb}
+use borrow.Author.Tests.{eqb-true, eq-eqb, lt-ltb}
 use Rattle.palindromes.specs.Word.{Word, isLetter}
-use Rattle.palindromes.specs.Palindrome.{SelfInverse, Symmetric}
+use Rattle.palindromes.specs.Palindrome.{Symmetric}
 use Rattle.palindromes.specs.Place.{Stands, Suffix, stands}
-use Rattle.palindromes.specs.Record.{count, longestSuffix, longestPrefix}
-use Rattle.palindromes.specs.End.{atLeft, atRight, longestAt}
+use Rattle.palindromes.specs.Record.{count, longestSuffix}
+use Rattle.palindromes.specs.End.{End, atLeft, atRight, longestAt}
 use Rattle.palindromes.specs.Node.{Node, imaginary, spelt, linkOf, around}
 use Rattle.palindromes.specs.Eertree.{Table, nodeFrom}
 use Rattle.palindromes.proofs.Tests.{not-true-false}
 use Rattle.palindromes.proofs.Lists.{either-true, left-is, right-is}
 use Rattle.palindromes.proofs.Words.{suffix-length, suffix-stands, suffix-append, suffix-trans, suffix-snoc-back, prefix-stands, stands-of-empty}
-use Rattle.palindromes.proofs.Longest.{longest-suffix, longest-prefix-snoc, longest-empty}
+use Rattle.palindromes.proofs.Longest.{longest-suffix}
 use Rattle.palindromes.proofs.Growth.{link-of-letter, link-of-framed, link-stood}
 use Rattle.palindromes.proofs.Places.{stands-true, stands-is, stands-empty}
 use Rattle.palindromes.proofs.Palindromes.{count-empty, count-snoc, count-length}
-use Rattle.palindromes.proofs.Across.{whole-at, whole-test}
 use Rattle.palindromes.proofs.Readings.{rule-inverse}
 use Rattle.palindromes.proofs.Letters.{letter-of}
 use Rattle.eertree.specs.Covers.{NodeOf, Covers, withUsed}
@@ -49,14 +48,20 @@ use Rattle.walk.proofs.Found.{stored-reach, chain, meets-longest, meets-link}
 use Rattle.walk.proofs.Stores.{rows-fit}
 use Rattle.transitions.proofs.Rows.{covers, used-root, used-is, used-rank, row-fits, length-row}
 use Rattle.transitions.proofs.Start.{Roots, roots-cover}
+use Rattle.ends.specs.Reach.{Reaches}
+use Rattle.ends.specs.declared.Reach.{Reach}
+use Rattle.audit_fixed.specs.Counting.{countBelow}
+use Rattle.audit_left.specs.Left.{Stood, old, new, Reads, LeftAfter}
+use Rattle.audit_left.proofs.Reaches.{left-start, right-start, right-after, reaches-more}
+use Rattle.audit_left.proofs.Left.{left-none}
 use Rattle.audit_edge.specs.Edge.{PointsBack, Walkable, LinkFound, alone, within, NewRow, right, not-longer, not-used, not-linked}
 use Rattle.audit_edge.proofs.Edge.{good-names}
 use Rattle.audit_lengths.specs.Lengths.{LengthsOf, Countable, Counted}
 use Rattle.audit_lengths.proofs.Lengths.{lengths-empty, lengths-same, lengths-more, count-small}
-use Rattle.audit_tour.specs.Tour.{Ready, readIn, metIn, Blank, leftAfter, Toured, Reading, Grows, Visited}
+use Rattle.audit_tour.specs.Tour.{Ready, readIn, metIn, markedRow, Blank, reachAt, Toured, Arrived, Reading, Grows, Visited}
 use Rattle.audit_tour.specs.declared.Tour.{Tour}
 use Rattle.audit_tour.specs.declared.Visit.{Visit}
-use Rattle.audit_tour.proofs.Marks.{met-root, met-marked, met-unmarked, blank-met, met-set}
+use Rattle.audit_tour.proofs.Marks.{met-root, met-marked, met-unmarked, blank-met, met-set, none-marked, one-marked}
 
 -- ---- words
 
@@ -69,21 +74,6 @@ module _ (σ : ℕ → ℕ) (p : Word) (d : ℕ) where
   count-new h =
       let n : stands (longestSuffix σ (p ++ (d ∷ []))) p ≡ false = not-true-false (stands (longestSuffix σ (p ++ (d ∷ []))) p) (λ e. h (stands-true (longestSuffix σ (p ++ (d ∷ []))) p e)) in
       omega (arith, rw n at (count-snoc σ p d))
-
-  module _ (inv : SelfInverse σ) where
-    -- the longest that begins the letters stays, unless the longest that ends them is all of them
-    prefix-kept : length (longestSuffix σ (p ++ (d ∷ []))) ≤ length p → longestPrefix σ (p ++ (d ∷ [])) ≡ longestPrefix σ p
-    unfolding longestAt
-    prefix-kept h =
-        let n = whole-test σ inv atRight (p ++ (d ∷ [])) ∙ ne-eqb (length (longestSuffix σ (p ++ (d ∷ [])))) (length (p ++ (d ∷ []))) (λ e. omega (arith, length-append p (d ∷ []))) in
-        longest-prefix-snoc σ p d ∙ ap (λ (v : Bool). cond v (p ++ (d ∷ [])) (longestPrefix σ p)) n
-
-    prefix-whole : length p < length (longestSuffix σ (p ++ (d ∷ []))) → longestPrefix σ (p ++ (d ∷ [])) ≡ longestSuffix σ (p ++ (d ∷ []))
-    unfolding longestAt
-    prefix-whole h =
-        let l = suffix-length (longest-suffix σ (p ++ (d ∷ [])) .suffix) in
-        let y = whole-test σ inv atRight (p ++ (d ∷ [])) ∙ eq-eqb (length (longestSuffix σ (p ++ (d ∷ [])))) (length (p ++ (d ∷ []))) (omega (arith, l, length-append p (d ∷ []))) in
-        longest-prefix-snoc σ p d ∙ ap (λ (v : Bool). cond v (p ++ (d ∷ [])) (longestPrefix σ p)) y ∙ sym (whole-at σ inv atRight (p ++ (d ∷ [])) y)
 
 -- ---- nodes
 
@@ -159,20 +149,25 @@ module _ {b marks carried : Word} (z : Ready b) (n : Blank marks) (y : Blank car
       }
 
   -- before the first letter the tour stands at the empty string
-  pub tour-start : Toured b marks carried [] (record { row = 1; left = 1; met = 0 })
-  unfolding longestAt
+  pub tour-start : Toured b marks carried [] (record { row = 1; before = 1; known = true; left = 1; second = 1; again = true; met = 0 })
   tour-start =
+      let root = met-root marks 1 (omega arith) in
       record {
         long = n .long;
         used = λ r u. used-root b r (blank-met n r u);
         covers = start-covers;
-        row-met = met-root marks 1 (omega arith);
-        row-holds = node-one b ∙ ap spelt (sym (longest-empty (ruleOf b) atRight));
-        left-met = met-root marks 1 (omega arith);
-        left-holds = node-one b ∙ ap spelt (sym (longest-empty (ruleOf b) atLeft));
+        ends = by-end (left-start root (node-one b)) (right-start root (node-one b));
         met-is = sym (count-empty (ruleOf b));
+        marked = sym (none-marked n (capacityIn b + 2));
         lengths = lengths-empty (ruleOf b) (y .long) (y .zero);
       }
+    where
+      none : Tour
+      none = record { row = 1; before = 1; known = true; left = 1; second = 1; again = true; met = 0 }
+
+      by-end : Reaches b (metIn marks) atLeft [] (reachAt atLeft none) → Reaches b (metIn marks) atRight [] (reachAt atRight none) → (e : End) → Reaches b (metIn marks) e [] (reachAt e none)
+      by-end l r atLeft = l
+      by-end l r atRight = r
 
 -- ---- what the code goes by
 
@@ -207,63 +202,62 @@ module _ {b marks carried : Word} {k : ℕ} {t : Tour} (s : Reading b marks carr
     read-stands : Stands (readIn b k ++ (d ∷ [])) (lettersIn b)
     read-stands = rw (← read-next) (prefix-stands (record { after = drop (k + 1) (lettersIn b); whole = take-append-drop (k + 1) (lettersIn b) }))
 
+    -- the tour comes to row q, which holds the longest palindrome that then ends the letters
+    module _ {marks′ carried′ : Word} (long : length marks′ ≡ 1026) (used : (r : ℕ) → metIn marks′ r ≡ true → usedIn b r ≡ true)
+        (cov : Covers (ruleOf b) (readIn b k ++ (d ∷ [])) (withUsed (metIn marks′) (tableIn b)) (nodeIn b)) (lengths : LengthsOf (ruleOf b) (readIn b k ++ (d ∷ [])) carried′) where
+      arrived : {q m : ℕ} {known : Bool} {left : Reach} {after : Tour} → Arrived t q known left m after → Reaches b (metIn marks′) atLeft (readIn b k ++ (d ∷ [])) left
+          → metIn marks′ q ≡ true → nodeIn b q ≡ spelt (longestSuffix (ruleOf b) (readIn b k ++ (d ∷ []))) → metIn marks′ (t .row) ≡ true
+          → known ≡ stands (longestSuffix (ruleOf b) (readIn b k ++ (d ∷ []))) (readIn b k) → m ≡ count (ruleOf b) (readIn b k ++ (d ∷ [])) → m ≡ countBelow (markedRow marks′) (capacityIn b + 2)
+          → Toured b marks′ carried′ (readIn b (k + 1)) after
+      unfolding longestAt
+      arrived {after} x l u f v a c i = rw read-next (record { long = long; used = used; covers = cov; ends = ends; met-is = x .met-is ∙ c; marked = x .met-is ∙ i; lengths = lengths })
+        where
+          ends : (e : End) → Reaches b (metIn marks′) e (readIn b k ++ (d ∷ [])) (reachAt e after)
+          ends atLeft = rw (x .left-is) l
+          ends atRight = rw (x .right-is) (right-after (readIn b k) d u f v (s .toured .ends atRight .row-holds) a)
+
     -- the walk finds a row to grow, or none
     module _ {o : Walked} (m : Meets b (lettersIn b) k d (ruleOf b d) (t .row) o) where
       found : Found (ruleOf b) (metIn marks) (nodeIn b) (readIn b k) d o
-      found = meets-longest b (s .toured .covers) (rule-inverse (readingIn b)) (lettersIn b) k d (omega (arith, letters-more)) (t .row) o (s .toured .row-met) (s .toured .row-holds) m
+      unfolding longestAt
+      found = meets-longest b (s .toured .covers) (rule-inverse (readingIn b)) (lettersIn b) k d (omega (arith, letters-more)) (t .row) o (s .toured .ends atRight .row-used) (s .toured .ends atRight .row-holds) m
 
       pub tour-grows : (u : ℕ) → o ≡ At u → Grows b marks k d u
       tour-grows u f =
           let g : Found (ruleOf b) (metIn marks) (nodeIn b) (readIn b k) d (At u) = subst (Found (ruleOf b) (metIn marks) (nodeIn b) (readIn b k) d) f found in
           record { next = e; met = g .0; longest = g .1 }
 
-      pub tour-none : o ≡ Nothing → Toured b marks carried (readIn b (k + 1)) (record { row = 1; left = t .left; met = t .met })
-      tour-none f =
+      pub tour-none : {after : Tour} → o ≡ Nothing → Arrived t 1 true (reachAt atLeft t) (t .met) after → Toured b marks carried (readIn b (k + 1)) after
+      tour-none f x =
           let g : longestSuffix (ruleOf b) (readIn b k ++ (d ∷ [])) ≡ [] = subst (Found (ruleOf b) (metIn marks) (nodeIn b) (readIn b k) d) f found in
-          rw read-next
-          (record {
-            long = s .toured .long;
-            used = s .toured .used;
-            covers = read-none (s .toured .covers) d g;
-            row-met = met-root marks 1 (omega arith);
-            row-holds = node-one b ∙ ap spelt (sym g);
-            left-met = s .toured .left-met;
-            left-holds = s .toured .left-holds ∙ ap spelt (sym (prefix-kept (ruleOf b) (readIn b k) d (rule-inverse (readingIn b)) (omega (arith, ap length g))));
-            met-is = s .toured .met-is ∙ sym (count-old (ruleOf b) (readIn b k) d (rw g (stands-empty (readIn b k))));
-            lengths = lengths-same (same-snoc (ruleOf b) (readIn b k) d (rw g (stands-empty (readIn b k)))) (s .toured .lengths);
-          })
-
-    -- the tour comes to row q, which holds the longest palindrome that then ends the letters
-    module _ {marks′ carried′ : Word} (long : length marks′ ≡ 1026) (used : (r : ℕ) → metIn marks′ r ≡ true → usedIn b r ≡ true)
-        (cov : Covers (ruleOf b) (readIn b k ++ (d ∷ [])) (withUsed (metIn marks′) (tableIn b)) (nodeIn b)) (lengths : LengthsOf (ruleOf b) (readIn b k ++ (d ∷ [])) carried′) where
-      arrived : (q left m : ℕ) → metIn marks′ q ≡ true → nodeIn b q ≡ spelt (longestSuffix (ruleOf b) (readIn b k ++ (d ∷ []))) → metIn marks′ (t .left) ≡ true
-          → left ≡ leftAfter b k q (t .left) → m ≡ count (ruleOf b) (readIn b k ++ (d ∷ [])) → Toured b marks′ carried′ (readIn b (k + 1)) (record { row = q; left = left; met = m })
-      arrived q left m u f l i c =
-          let v = begins (leb (cell b q 0) (k + 1)) refl in
-          rw read-next (record { long = long; used = used; covers = cov; row-met = u; row-holds = f; left-met = rw i (v .0); left-holds = rw i (v .1); met-is = c; lengths = lengths })
-        where
-          reach : cell b q 0 ≡ suc (length (longestSuffix (ruleOf b) (readIn b k ++ (d ∷ []))))
-          reach = stored-reach b cov q u ∙ ap reachOf f
-
-          begins : (v : Bool) → leb (cell b q 0) (k + 1) ≡ v
-              → (metIn marks′ (cond v (t .left) q) ≡ true) × (nodeIn b (cond v (t .left) q) ≡ spelt (longestPrefix (ruleOf b) (readIn b k ++ (d ∷ []))))
-          begins true g =
-              (l, s .toured .left-holds ∙ ap spelt (sym (prefix-kept (ruleOf b) (readIn b k) d (rule-inverse (readingIn b)) (omega (arith, reach, read-length, leb-true (cell b q 0) (k + 1) g)))))
-          begins false g =
-              (u, f ∙ ap spelt (sym (prefix-whole (ruleOf b) (readIn b k) d (rule-inverse (readingIn b)) (omega (arith, reach, read-length, leb-false (cell b q 0) (k + 1) g)))))
+          let stood : Stands (longestSuffix (ruleOf b) (readIn b k ++ (d ∷ []))) (readIn b k) = rw g (stands-empty (readIn b k)) in
+          arrived (s .toured .long) (s .toured .used) (read-none (s .toured .covers) d g) (lengths-same (same-snoc (ruleOf b) (readIn b k) d stood) (s .toured .lengths))
+          x (left-none d g (s .toured .ends atLeft)) (met-root marks 1 (omega arith)) (node-one b ∙ ap spelt (sym g)) (s .toured .ends atRight .row-used) (sym (stands-is _ (readIn b k) stood))
+          (s .toured .met-is ∙ sym (count-old (ruleOf b) (readIn b k) d stood)) (s .toured .marked)
 
   module _ {d u : ℕ} (w : Grows b marks k d u) where
     -- from row u the links can be walked
     pub grown-walkable : {f : Frame} → Frames b f → Walkable b f k u
     grown-walkable h = record { sized = s .ready .sized; framed = h; more = s .more; chain = met-chain u (w .met) }
 
+    -- what is read with the letter, at the row that it leads to
+    reads : (marks′ : Word) {q x : ℕ} → Covers (ruleOf b) (readIn b k ++ (d ∷ [])) (withUsed (metIn marks′) (tableIn b)) (nodeIn b) → metIn marks′ q ≡ true
+        → nodeIn b q ≡ spelt (longestSuffix (ruleOf b) (readIn b k ++ (d ∷ []))) → Stood b (readIn b k) d q x → Reads b (metIn marks′) (readIn b k) d k q x
+    reads marks′ cov m f o = record { size = sym read-length; covers = cov; row-used = m; row-holds = f; stood = o }
+
+    -- the link of a row met before lies within the store
+    pub old-link : (q : ℕ) → getD marks q 0 ≡ 1 → 24 * linkIn b q + 24 ≤ length b
+    old-link q f = rows-fit (s .ready .sized) (linkIn b q) (s .toured .used (linkIn b q) (s .toured .covers .link-is q (met-marked marks q f) .0))
+
     -- to a row met before
-    pub tour-old : {q left : ℕ} → PointsBack b u d q → getD marks q 0 ≡ 1 → left ≡ leftAfter b k q (t .left)
-        → Toured b marks carried (readIn b (k + 1)) (record { row = q; left = left; met = t .met })
-    tour-old {q} {left} r f l =
+    pub tour-old : {q : ℕ} {left : Reach} {after : Tour} → PointsBack b u d q → getD marks q 0 ≡ 1 → LeftAfter b k q q (reachAt atLeft t) left → Arrived t q true left (t .met) after
+        → Toured b marks carried (readIn b (k + 1)) after
+    tour-old {q} r f l x =
         let i = met-marked marks q f in
         let o = read-old (s .toured .covers) u d (w .met) (w .longest) q i (r .low) (r .inner) (r .outer) in
-        arrived (w .next) (s .toured .long) (s .toured .used) (o .0) (lengths-same (same-snoc (ruleOf b) (readIn b k) d (o .2)) (s .toured .lengths)) q left (t .met) i (o .1) (s .toured .left-met) l (s .toured .met-is ∙ sym (count-old (ruleOf b) (readIn b k) d (o .2)))
+        arrived (w .next) (s .toured .long) (s .toured .used) (o .0) (lengths-same (same-snoc (ruleOf b) (readIn b k) d (o .2)) (s .toured .lengths))
+        x (l (metIn marks) (readIn b k) d (reads marks (o .0) i (o .1) (old (o .2) refl)) (s .toured .ends atLeft)) i (o .1) (s .toured .ends atRight .row-used) (sym (stands-is _ (readIn b k) (o .2)))
+        (s .toured .met-is ∙ sym (count-old (ruleOf b) (readIn b k) d (o .2))) (s .toured .marked)
 
     -- the word of row u ends the letters read, if it has one
     word-ends : (v : Word) → nodeIn b u ≡ spelt v → Suffix v (readIn b k)
@@ -333,6 +327,10 @@ module _ {b marks carried : Word} {k : ℕ} {t : Tour} (s : Reading b marks carr
             outer-right = r .outer;
           }
 
+      -- and that link lies within the store
+      pub new-link : NewRow b k d u q true → 24 * linkIn b q + 24 ≤ length b
+      new-link (right c y x) = rows-fit (s .ready .sized) (linkIn b q) (s .toured .used (linkIn b q) (link-holds (linkIn b q) x .0))
+
       mark-inside : q < length marks
       mark-inside = omega (arith, s .toured .long, r .high, s .ready .sized .at-most)
 
@@ -362,21 +360,21 @@ module _ {b marks carried : Word} {k : ℕ} {t : Tour} (s : Reading b marks carr
           }
 
       -- to a row that is met for the first time
-      pub tour-new : {left : ℕ} {carried′ : Word} → q ≡ edgeIn b u d → (getD marks q 0 ≡ 1 → ⊥) → NewRow b k d u q true → left ≡ leftAfter b k q (t .left) → length carried′ ≡ length carried → Counted carried (cell b q 0) carried′
-          → Toured b (set marks q 1) carried′ (readIn b (k + 1)) (record { row = q; left = left; met = t .met + 1 })
-      tour-new {left} f n (right c y x) l same counted =
+      pub tour-new : {x : ℕ} {left : Reach} {carried′ : Word} {after : Tour} → q ≡ edgeIn b u d → (getD marks q 0 ≡ 1 → ⊥) → NewRow b k d u q true → x ≡ linkIn b q → LeftAfter b k q x (reachAt atLeft t) left
+          → Arrived t q false left (t .met + 1) after → length carried′ ≡ length carried → Counted carried (cell b q 0) carried′ → Toured b (set marks q 1) carried′ (readIn b (k + 1)) after
+      tour-new f n (right c y x) i l arrives same counted =
           let old = met-unmarked marks q (r .low) n in
           let also = met-set marks q mark-inside in
           let fresh = read-fresh (s .toured .covers) u d (w .met) (w .longest) (letter-next (w .next)) (subst (λ (j : ℕ). metIn marks j ≡ false) f old) in
-          arrived (w .next) (length-set marks q 1 ∙ s .toured .long) (used-more y)
-          (read-new (s .toured .covers) u d (w .met) (w .longest) (letter-next (w .next)) q (sym f) old (new-fits c x) (metIn (set marks q 1)) also)
-          (lengths-more (one-more-snoc (ruleOf b) (readIn b k) d fresh) (s .toured .lengths) (new-reach c) same counted)
-          q left (t .met + 1)
-          (also q ∙ left-is (eqb q q) (metIn marks q) (eq-eqb q q refl))
-          (new-word ∙ ap spelt (sym (w .longest)))
-          (also (t .left) ∙ right-is (eqb (t .left) q) (metIn marks (t .left)) (s .toured .left-met))
-          l
+          let cov = read-new (s .toured .covers) u d (w .met) (w .longest) (letter-next (w .next)) q (sym f) old (new-fits c x) (metIn (set marks q 1)) also in
+          let kept : (j : ℕ) → metIn marks j ≡ true → metIn (set marks q 1) j ≡ true = λ j m. also j ∙ right-is (eqb j q) (metIn marks j) m in
+          let here = also q ∙ left-is (eqb q q) (metIn marks q) (eq-eqb q q refl) in
+          let holds = new-word ∙ ap spelt (sym (w .longest)) in
+          arrived (w .next) (length-set marks q 1 ∙ s .toured .long) (used-more y) cov (lengths-more (one-more-snoc (ruleOf b) (readIn b k) d fresh) (s .toured .lengths) (new-reach c) same counted)
+          arrives (l (metIn (set marks q 1)) (readIn b k) d (reads (set marks q 1) cov here holds (new fresh i)) (reaches-more kept (s .toured .ends atLeft))) here holds (kept (t .row) (s .toured .ends atRight .row-used))
+          (sym (not-true-false (stands _ (readIn b k)) (λ e. fresh (stands-true _ (readIn b k) e))))
           (omega (arith, s .toured .met-is, count-new (ruleOf b) (readIn b k) d fresh))
+          (omega (arith, s .toured .marked, one-marked marks q (capacityIn b + 2) mark-inside (r .low) n (r .high)))
 
     -- ---- in a good store
 

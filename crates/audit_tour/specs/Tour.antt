@@ -1,17 +1,21 @@
 -- What the tour of src/lib.rt has shown of a store once some of its letters are read: the rows that it met are the eertree of those letters.
 use Prim.Native.Nat.{ℕ, _+_, _<_}
 use mathlib.Core.Path.{_≡_}
-use mathlib.Core.Bool.{Bool, true, _||_, cond}
+use mathlib.Core.Bool.{Bool, true, _&&_, _||_}
 use mathlib.Core.List.{[], _∷_, _++_}
 use lib.Dec.{eqb, leb, ltb}
 use lib.ListN.{length, getD, take}
 use Rattle.palindromes.specs.Word.{Word, allLetters}
-use Rattle.palindromes.specs.Record.{count, longestSuffix, longestPrefix}
-use Rattle.palindromes.specs.Node.{spelt, around}
+use Rattle.palindromes.specs.Record.{count, longestSuffix}
+use Rattle.palindromes.specs.End.{End, atLeft, atRight}
+use Rattle.palindromes.specs.Node.{around}
 use Rattle.eertree.specs.Covers.{Covers, withUsed}
-use Rattle.store.specs.Layout.{cell, sizeIn, usedIn, lettersIn}
+use Rattle.store.specs.Layout.{capacityIn, sizeIn, usedIn, lettersIn}
 use Rattle.store.specs.Good.{ruleOf, tableIn, nodeIn, Sized, Good}
+use Rattle.ends.specs.Reach.{Reaches}
+use Rattle.ends.specs.declared.Reach.{Reach}
 use Rattle.audit_fixed.specs.Parts.{RootsRight}
+use Rattle.audit_fixed.specs.Counting.{countBelow}
 use Rattle.audit_lengths.specs.Lengths.{LengthsOf}
 use Rattle.audit_tour.specs.declared.Tour.{Tour}
 use Rattle.audit_tour.specs.declared.Visit.{Visit}
@@ -36,22 +40,30 @@ pub record Blank (marks : Word) : Type 0 where
   pub long : length marks ≡ 1026
   pub zero : (r : ℕ) → getD marks r 0 ≡ 0
 
--- once the letters p are read: the rows met are in use and cover p, `row` holds the longest palindrome that ends p, `left` the longest that begins p, and `met` is how many were met; `carried` has
--- their lengths
+-- a row that is no root was met
+unfoldable pub markedRow : Word → ℕ → Bool
+markedRow marks r = leb 2 r && eqb (getD marks r 0) 1
+
+-- what a tour knows of an end
+abbrev pub reachAt : End → Tour → Reach
+reachAt atLeft t = record { row = t .left; short = t .second; again = t .again }
+reachAt atRight t = record { row = t .row; short = t .before; again = t .known }
+
+-- once the letters p are read: the rows met are in use and cover p, both ends are known, and `met` is how many were met; `carried` has their lengths
 pub record Toured (b marks carried p : Word) (t : Tour) : Type 0 where
   pub long : length marks ≡ 1026
   pub used : (r : ℕ) → metIn marks r ≡ true → usedIn b r ≡ true
   pub covers : Covers (ruleOf b) p (withUsed (metIn marks) (tableIn b)) (nodeIn b)
-  pub row-met : metIn marks (t .row) ≡ true
-  pub row-holds : nodeIn b (t .row) ≡ spelt (longestSuffix (ruleOf b) p)
-  pub left-met : metIn marks (t .left) ≡ true
-  pub left-holds : nodeIn b (t .left) ≡ spelt (longestPrefix (ruleOf b) p)
+  pub ends : (e : End) → Reaches b (metIn marks) e p (reachAt e t)
   pub met-is : t .met ≡ count (ruleOf b) p
+  pub marked : t .met ≡ countBelow (markedRow marks) (capacityIn b + 2)
   pub lengths : LengthsOf (ruleOf b) p carried
 
--- the row of the longest palindrome that begins k + 1 letters, if row q's is the longest that ends them: row q itself if that is all of them
-abbrev pub leftAfter : Word → (k q left : ℕ) → ℕ
-leftAfter b k q left = cond (leb (cell b q 0) (k + 1)) left q
+-- the tour t comes to row q, whose palindrome is known or not: with this left end, and so many rows met
+pub record Arrived (t : Tour) (q : ℕ) (known : Bool) (left : Reach) (met : ℕ) (after : Tour) : Type 0 where
+  pub left-is : reachAt atLeft after ≡ left
+  pub right-is : reachAt atRight after ≡ record { row = q; short = t .row; again = known }
+  pub met-is : after .met ≡ met
 
 -- k letters of a store that is ready are read, and one more follows
 pub record Reading (b marks carried : Word) (k : ℕ) (t : Tour) : Type 0 where

@@ -1,33 +1,38 @@
 // The tour of the letters from left to right: from the row of the longest palindrome that ends the
 // letters so far, each letter leads to the row of the next one. A row is tested when it is first
-// met, and marked, and its length is counted.
+// met, and marked, and its length is counted. What the tour knows of both ends once all letters are
+// read is all that a removal or a question about an end asks, so that neither reads them again.
 ghost use mathlib.Core.Path.{_≡_};
-ghost use Prim.Native.Nat.{_+_, _*_, _<_, _≤_};
-ghost use lib.ListN.{length};
+ghost use Prim.Native.Nat.{_+_};
 ghost use Rattle.store.specs.Layout.{lettersIn};
+ghost use Rattle.store.specs.Side.{endOf};
 ghost use Rattle.partners.specs.Table.{PartnersIn};
 ghost use Rattle.walk.specs.Frame.{Frames, partnerIn};
-ghost use Rattle.audit_tour.specs.Tour.{Ready, Blank, readIn, leftAfter, Reading, Grows, Visited};
+ghost use Rattle.audit_tour.specs.Tour.{Ready, Blank, readIn, reachAt, Arrived, Reading, Grows, Visited};
 use audit_edge::new_row_right;
 use audit_edge::points_back;
+use audit_left::left_after;
 use audit_lengths::count_row;
+use ends::Reach;
 use partners::partner_in;
 use partners::table;
-use store::lengths;
-use store::lengths::Place;
 use store::letters::Side;
 use store::rows;
 use store::rows::Row;
 use walk::Walked;
 use walk::frame::Frame;
 use walk::frame::frame_of;
-use walk::frame::seen;
+use walk::frame::standing;
 
-// Where a tour stands: the row of the longest palindrome that ends the letters so far, the row of
-// the longest that begins them, and how many rows were met.
+// Where a tour stands: of either end of the letters so far what is known of it, and how many rows were met. The numbers lie
+// side by side, not in two structs, so that each stays in a register of its own.
 pub struct Tour {
     pub row: usize,
+    pub before: usize,
+    pub known: bool,
     pub left: usize,
+    pub second: usize,
+    pub again: bool,
     pub met: usize,
 }
 
@@ -37,16 +42,36 @@ pub enum Visit {
     Broken,
 }
 
-// The row of the longest palindrome that begins k + 1 letters, if row q's is the longest that ends
-// them: with no letter before it, it is all of them.
-pub fn left_after(b: &[u8], k: usize, q: usize, left: usize) -> usize
-    requires { ⌜ (24 * q + 24 ≤ length (now b)) × (k < 65535) ⌝ }
-    ensures { λ r. ⌜ r ≡ leftAfter (now (b .entry)) k q left ⌝ }
+// What a tour knows of a side.
+pub fn reach_at(tour: Tour, side: Side) -> Reach
+    ensures { λ r. ⌜ r ≡ reachAt (endOf side) tour ⌝ }
 {
-    let place = lengths::before(k + 1, rows::length_of(b, q));
-    match place {
-        Place::At(_) => left,
-        Place::Outside => q,
+    match side {
+        Side::Left => Reach {
+            row: tour.left,
+            short: tour.second,
+            again: tour.again,
+        },
+        Side::Right => Reach {
+            row: tour.row,
+            short: tour.before,
+            again: tour.known,
+        },
+    }
+}
+
+// The tour at row q, which is known or new, with the left end as it is now.
+fn arrive(tour: Tour, q: usize, known: bool, left: Reach, met: usize) -> Tour
+    ensures { λ r. ⌜ Arrived tour q known left met r ⌝ }
+{
+    Tour {
+        row: q,
+        before: tour.row,
+        known,
+        left: left.row,
+        second: left.short,
+        again: left.again,
+        met,
     }
 }
 
@@ -71,24 +96,19 @@ pub fn enter(
     if !points_back(b, u, d, q) {
         return Visit::Broken;
     }
-    let left = left_after(b, k, q, tour.left);
+    let left = reach_at(tour, Side::Left);
     if marks[q] == 1 {
-        return Visit::Next(Tour {
-            row: q,
-            left,
-            met: tour.met,
-        });
+        let known = left_after(b, k, q, q, left);
+        return Visit::Next(arrive(tour, q, true, known, tour.met));
     }
     if !new_row_right(b, f, k, u, d, want, q) {
         return Visit::Broken;
     }
     marks[q] = 1;
     count_row(b, carried, q);
-    Visit::Next(Tour {
-        row: q,
-        left,
-        met: tour.met + 1,
-    })
+    let link = rows::link_of(b, q);
+    let new = left_after(b, k, q, link, left);
+    Visit::Next(arrive(tour, q, false, new, tour.met + 1))
 }
 
 // The letter after the first k.
@@ -105,16 +125,15 @@ pub fn advance(
     requires { ⌜ Reading (now b) (now marks) (now carried) k tour ⌝ }
     ensures { λ r. ⌜ Visited (now (b .entry)) (now (marks .exit)) (now (carried .exit)) (readIn (now (b .entry)) (k + 1)) r ⌝ }
 {
-    let d = seen(b, f, partners, Side::Right, k);
+    let d = standing(b, f, Side::Right, k);
     let want = partner_in(partners, d);
     let found = walk::walk(b, f, Side::Right, k, tour.row, d, want);
     match found {
         Walked::At(u) => enter(b, f, marks, carried, k, tour, u, d, want),
-        Walked::Nothing => Visit::Next(Tour {
-            row: Row::EMPTY,
-            left: tour.left,
-            met: tour.met,
-        }),
+        Walked::Nothing => {
+            let left = reach_at(tour, Side::Left);
+            Visit::Next(arrive(tour, Row::EMPTY, true, left, tour.met))
+        }
     }
 }
 
@@ -129,7 +148,11 @@ pub fn replay(b: &[u8], marks: &mut [u8], carried: &mut [u16]) -> Visit
     let partners = table(f.reading);
     let mut tour = Tour {
         row: Row::EMPTY,
+        before: Row::EMPTY,
+        known: true,
         left: Row::EMPTY,
+        second: Row::EMPTY,
+        again: true,
         met: 0,
     };
     let mut k = 0;

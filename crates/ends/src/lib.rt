@@ -1,4 +1,5 @@
-// What an addition and a removal share: the number of letters and the rows of both ends.
+// The ends of a record: what is known of one before its letter goes, and what an addition and a removal share, the number
+// of letters and the rows of both ends.
 use store::header;
 use store::letters;
 use store::letters::Side;
@@ -8,6 +9,14 @@ ghost use lib.ListN.{length};
 ghost use Rattle.store.specs.Side.{endOf};
 ghost use Rattle.store.specs.Writes.{writes};
 ghost use Rattle.ends.specs.Steps.{endWrites, Opposite};
+
+// What is known of an end: the row of the longest palindrome there, the row of the longest that is there without the end's
+// own letter, and whether the first stands without that letter too.
+pub struct Reach {
+    pub row: usize,
+    pub short: usize,
+    pub again: bool,
+}
 
 // The row of the end across from `side`, at which the longest palindrome of all n letters has the
 // given length: `whole` if it is all of them, and else the row that is there.

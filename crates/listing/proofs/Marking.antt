@@ -27,7 +27,7 @@ use Rattle.store.specs.Good.{ruleOf, nodeIn, Good}
 use Rattle.store.proofs.Sizes.{used-below, letters-length}
 use Rattle.transitions.proofs.Rows.{covers, used-rank, count-most}
 use Rattle.walk.specs.Replay.{endingIn, Holds}
-use Rattle.walk.proofs.Right.{right-first}
+use Rattle.walk.proofs.Reading.{holds-first}
 use Rattle.listing.specs.Marks.{ReadTo, ReadOn}
 use Rattle.listing.proofs.Stores.{sets-over}
 
@@ -48,7 +48,7 @@ module _ {b : Word} (g : Good b) where
   pub reads-first : (marks : Word) → sizeIn b ≤ length marks → ((i : ℕ) → i < sizeIn b → getD marks i 0 ≡ 0) → ReadTo b 0 1 marks
   reads-first marks m none =
       record {
-        ends = right-first g;
+        ends = holds-first g;
         room = m;
         tells = λ r w u l e.
             let p = word-row (covers g) r u l in
@@ -59,7 +59,7 @@ module _ {b : Word} (g : Good b) where
 
   -- ---- one letter more
 
-  module _ {k row last : ℕ} {marks : Word} (l : k < sizeIn b) (a : ReadTo b k row marks) (h : Holds b (lettersIn b) (k + 1) last) where
+  module _ {k row last : ℕ} {marks : Word} (l : k < sizeIn b) (a : ReadTo b k row marks) (h : Holds b (k + 1) last) where
     -- a palindrome of the record other than the one that ends there stands if it did before
     met-other : (r : ℕ) (w : Word) → usedIn b r ≡ true → nodeIn b r ≡ spelt w → (w ≡ endingIn b (k + 1) → ⊥) → stands w (take k (lettersIn b)) ≡ stands w (take (k + 1) (lettersIn b))
     met-other r w u e n =

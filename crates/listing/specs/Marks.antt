@@ -18,7 +18,7 @@ SameBehind n old new = (w : Word) → n ≤ length w → sets new 0 w ≡ sets o
 
 -- where a walk over the letters is that has read the first k: at the row of the longest palindrome that ends them, with a mark at each palindrome that stands among them
 pub record ReadTo (b : Word) (k row : ℕ) (marks : Word) : Type 0 where
-  pub ends : Holds b (lettersIn b) k row
+  pub ends : Holds b k row
   pub room : sizeIn b ≤ length marks
   pub tells : (r : ℕ) (w : Word) → usedIn b r ≡ true → 2 ≤ r → nodeIn b r ≡ spelt w → eqb (getD marks (rankIn b r) 0) 0 ≡ not (stands w (take k (lettersIn b)))
 

@@ -1,6 +1,5 @@
 // Reading the letters of a record with a mark at each palindrome that has stood so far.
 use spelling::spelling_length;
-use store::letters::Side;
 use store::rows::Row;
 use store::rows::rank_of;
 use walk::frame::Frame;
@@ -36,7 +35,7 @@ pub fn meet(
     requires { ⌜ ReadTo (now b) k row (now marks) ⌝ }
     ensures { λ r. ⌜ ReadOn (now (b .entry)) k (now (marks .entry)) (r .row) (r .start) (r .first) (now (marks .exit)) ⌝ }
 {
-    let last = replay::next(b, f, partners, Side::Right, k, row);
+    let last = replay::next(b, f, partners, k, row);
     let start = k + 1 - spelling_length(b, last);
     if last <= Row::EMPTY {
         return Meeting {

@@ -5,14 +5,16 @@ ghost use Rattle.palindromes.specs.Refusal.{ask, theLongest, theLongestAt};
 ghost use Rattle.store.specs.Side.{endOf};
 ghost use Rattle.outcome.specs.Promise.{nothing, Asked};
 ghost use Rattle.outcome.specs.Verdict.{Verdict};
-use longest_palindrome::ends;
+use audit::Finding;
+use audit_tour::reach_at;
+use longest_palindrome::at_end;
 use longest_palindrome::whole;
 use outcome::pack;
 use outcome::refuse;
 use questions::record;
 use store::letters::Side;
 
-// The refusal number of asking the longest repeat, of all or at a side: 0 where it can be answered.
+// The refusal number of asking the longest repeat of all: 0 where it can be answered.
 fn judge_longest(store: &[u8]) -> u64
     ensures { λ n. ⌜ Verdict (ask theLongest) (now (store .entry)) nothing n ⌝ }
 {
@@ -37,15 +39,17 @@ pub fn longest_repeat(store: &[u8]) -> u64
     pack(false, 0, found.length, found.place)
 }
 
-// The row of the longest repeat at a side, and whether it stands once only.
+// The row of the longest repeat at a side, and whether it stands once only: the test has read the letters.
 fn longest_at(store: &[u8], side: Side) -> u64
     ensures { λ r. ⌜ Asked (theLongestAt (endOf side)) (now (store .entry)) nothing r nothing ⌝ }
 {
-    let number = judge_longest(store);
-    if number != 0 {
-        return refuse(number);
+    let Finding::Sound(tour) = audit::examine(store) else {
+        return refuse(3);
+    };
+    if record::length(store) == 0 {
+        return refuse(6);
     }
-    let found = ends::longest_at(store, side);
+    let found = at_end::longest_at(store, side, reach_at(tour, side));
     pack(found.once, found.row, 0, 0)
 }
 

@@ -1,4 +1,4 @@
--- The longest palindrome at an end of a store's record, for the contract of src/ends.rt.
+-- The longest palindrome at an end of a store's record, for the contract of src/at_end.rt.
 use Rattle.palindromes.specs.Word.{Word}
 use Rattle.palindromes.specs.End.{End, longestAt}
 use Rattle.store.specs.Layout.{lettersIn}

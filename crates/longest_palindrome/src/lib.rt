@@ -1,3 +1,3 @@
 // The longest palindrome of a good store's record, of all and at an end.
-pub mod ends;
+pub mod at_end;
 pub mod whole;

@@ -1,7 +1,6 @@
 // The longest palindrome of the record: its length and its leftmost place.
 use partners::table;
 use spelling::spelling_length;
-use store::letters::Side;
 use store::rows::Row;
 use walk::frame::frame_of;
 use walk::replay;
@@ -30,7 +29,7 @@ pub fn longest(b: &[u8]) -> LongestAnswer
     let mut place = 0;
     let mut k = 0;
     while k < f.n {
-        row = replay::next(b, f, &partners, Side::Right, k, row);
+        row = replay::next(b, f, &partners, k, row);
         let here = spelling_length(b, row);
         if length < here {
             length = here;

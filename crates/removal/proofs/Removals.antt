@@ -1,36 +1,32 @@
--- What a removal finds in a good store, and the bytes that its writes leave. The letters that are left are those read before the last one, so the row of the longest palindrome that ends them is the row
--- of the end without the letter (`last-row`), and the palindrome at the end goes exactly if its row was not come to (`goes`). What is read and written of a row that goes lies within the store, before
+-- What a removal finds in a good store, and the bytes that its writes leave. What is known of the end says which row is the end's without the letter, and whether the palindrome there goes (`parted`).
+-- What is read and written of a row that goes lies within the store, before
 -- and after the letter has left (`leaf`, `leaf-kept`). Last, the writes of the code are those that the definitions name (`removed-gone`, `removed-kept`).
--- Rests on `Towards` of walk, on the laws of a good store (`Rows` of transitions), on `gone-high` of `RemovedBytes` and on the frame laws of the store.
-use Prim.Native.Nat.{ℕ, zero, suc, _+_, _-_, _≤_}
+-- Rests on the laws of a good store (`Rows` of transitions), on `gone-high` of `RemovedBytes` and on the frame laws of the store.
+use Prim.Native.Nat.{ℕ, _+_, _-_, _≤_}
 use native.Mathlib.Omega.{arith}
-use mathlib.Core.Path.{_≡_, refl, sym, ap, _∙_, subst₂}
-use mathlib.Core.Bool.{Bool, true, false, cond, not}
+use mathlib.Core.Path.{_≡_, sym, ap, _∙_, subst₂}
+use mathlib.Core.Bool.{true, false, cond, not}
 use mathlib.Core.List.{[], _∷_, _++_}
 use lib.Dec.{eqb}
 use lib.ListN.{length, take, drop}
 use lib.IntN.{pos}
 use lib.Seq.{sets, length-sets}
 use Rattle.palindromes.specs.Word.{Word}
-use Rattle.palindromes.specs.Place.{stands}
-use Rattle.palindromes.specs.Record.{longestSuffix}
 use Rattle.palindromes.specs.End.{End, other, removed, letterAt, longestAt}
 use Rattle.palindromes.specs.Node.{spelt, lengthOf}
-use Rattle.palindromes.proofs.NewIn.{longest-at}
-use Rattle.palindromes.proofs.Readings.{rule-inverse}
 use Rattle.palindromes.proofs.Letters.{letter-byte}
-use Rattle.store.specs.Layout.{capacityIn, sizeIn, countIn, readingIn, endRow, lengthIn, linkIn, innerIn, outerIn, orderIn, rankIn, usedIn, lettersAt, lettersIn}
-use Rattle.store.specs.Good.{ruleOf, nodeIn, Good}
-use Rattle.store.specs.Writes.{towards, writes, carriedWrites}
+use Rattle.store.specs.Layout.{capacityIn, sizeIn, countIn, endRow, lengthIn, linkIn, innerIn, outerIn, orderIn, rankIn, usedIn, lettersAt, lettersIn}
+use Rattle.store.specs.Good.{ruleOf, Good}
+use Rattle.store.specs.Writes.{writes, carriedWrites}
 use Rattle.store.proofs.Writes.{cell-sets, writes-append}
-use Rattle.store.proofs.Sizes.{letters-length, used-below}
-use Rattle.walk.specs.Replay.{lettersTowards, Holds, Surveyed}
-use Rattle.walk.proofs.Towards.{towards-removed, longest-towards, stands-towards-test}
+use Rattle.store.proofs.Sizes.{used-below}
 use Rattle.walk.proofs.Stores.{header-fits}
 use Rattle.transitions.specs.Removal.{longestBefore, takesOut, dropWrites, lossWrites, leaveWrites, removalWrites, afterRemoval}
 use Rattle.transitions.proofs.RemovedBytes.{end-holds, gone-high}
 use Rattle.transitions.proofs.Rows.{covers, used-rank, used-fits, row-fits, row-of, count-most, outer-letter}
 use Rattle.ends.specs.Steps.{endWrites}
+use Rattle.ends.specs.Reach.{Reaches}
+use Rattle.ends.specs.declared.Reach.{Reach}
 use Rattle.freeing.specs.Steps.{Leaves}
 use Rattle.length_counts.specs.Steps.{CarriedFor}
 use Rattle.length_counts.specs.declared.Carried.{Carried}
@@ -39,50 +35,25 @@ use Rattle.removal.specs.Steps.{lastRow, oppositeRow, Parts}
 module _ {b : Word} (g : Good b) (e : End) where
   -- ---- what is found
 
-  -- the end's row is no imaginary one
-  pub end-high : 1 ≤ endRow b e
-  end-high = go (endRow b e) refl
-    where
-      go : (r : ℕ) → endRow b e ≡ r → 1 ≤ r
-      go zero f =
-          let z : _≡_ {A = ℕ} 0 1 = cc (g .ends e .holds, g .table .row-zero .1) in
-          omega arith
-      go (suc r) f = omega arith
-
-  -- the letters that are left are those read before the last one
-  rest-read : towards (ruleOf b) e (removed e (lettersIn b)) ≡ take (sizeIn b - 1) (lettersTowards b e)
-  rest-read = towards-removed (ruleOf b) e (lettersIn b) ∙ ap (λ (n : ℕ). take (n - 1) (lettersTowards b e)) (letters-length (g .sized))
-
-  -- the row come to last is the end's row without the letter
-  pub last-row : (last : ℕ) → Holds b (lettersTowards b e) (sizeIn b - 1) last → last ≡ lastRow b e
-  last-row last h =
-      sym (row-of g last (spelt (longestAt (ruleOf b) e (removed e (lettersIn b)))) (h .used)
-      (h .holds ∙ ap spelt (ap (longestSuffix (ruleOf b)) (sym rest-read) ∙ sym (longest-towards (ruleOf b) (rule-inverse (readingIn b)) e (removed e (lettersIn b))))))
-
-  -- the longest palindrome there goes exactly if the reading did not come to its row
-  pub goes : (met : Bool) → ((w : Word) → nodeIn b (endRow b e) ≡ spelt w → met ≡ stands w (take (sizeIn b - 1) (lettersTowards b e))) → takesOut e b ≡ not met
-  unfolding takesOut longestBefore
-  goes met tells =
-      let v = longestAt (ruleOf b) e (lettersIn b) in
-      let inv = rule-inverse (readingIn b) in
-      ap not (sym (tells v (g .ends e .holds ∙ refl)
-      ∙ ap (stands v) (sym rest-read)
-      ∙ stands-towards-test (ruleOf b) inv e v (removed e (lettersIn b)) (longest-at (ruleOf b) inv e (lettersIn b) .0)))
-
-  -- the length of that palindrome
+  -- the length of the longest palindrome at the end
   pub end-length : lengthIn b (endRow b e) ≡ pos (length (longestBefore e b))
   unfolding lengthOf
   end-length = g .table .length-is (endRow b e) (g .ends e .used) ∙ ap lengthOf (end-holds e g)
 
-  -- so all that the code reads is what the definitions name
-  pub parted : {base n row last link letter x : ℕ} {met : Bool} → base ≡ lettersAt (capacityIn b) → n ≡ sizeIn b → row ≡ endRow b e
-      → Surveyed b (lettersTowards b e) (n - 1) row last met → letter ≡ letterAt e (take n (drop base b)) → link ≡ linkIn b row
+  -- all that the code reads, and what it is told of the end, is what the definitions name
+  pub parted : {base n row link letter x : ℕ} {reach : Reach} → base ≡ lettersAt (capacityIn b) → n ≡ sizeIn b → row ≡ endRow b e
+      → Reaches b (usedIn b) e (lettersIn b) reach → letter ≡ letterAt e (take n (drop base b)) → link ≡ linkIn b row
       → x ≡ cond (eqb (length (longestBefore e b)) n) link (endRow b (other e))
-      → Parts b e (record { letter = letter; row = row; met = met; last = last; opposite = x })
-  unfolding lettersIn
-  parted {row} {last} {met} i j k s l m y =
-      let h : Surveyed b (lettersTowards b e) (sizeIn b - 1) (endRow b e) last met = subst₂ (λ (n r : ℕ). Surveyed b (lettersTowards b e) (n - 1) r last met) j k s in
-      record { letter-is = cc; row-is = k; met-is = goes met (h .tells); last-is = last-row last (h .ends); opposite-is = cc }
+      → Parts b e (record { letter = letter; row = row; met = reach .again; last = reach .short; opposite = x })
+  unfolding lettersIn takesOut longestBefore
+  parted {reach} i j k h l m y =
+      record {
+        letter-is = cc;
+        row-is = k;
+        met-is = ap not (sym (h .again-is));
+        last-is = sym (row-of g (reach .short) (spelt (longestAt (ruleOf b) e (removed e (lettersIn b)))) (h .short-used) (h .short-holds));
+        opposite-is = cc;
+      }
 
 -- ---- the row that goes
 

@@ -1,17 +1,18 @@
-// A removal: the letters that are left are read again, which tells whether the longest palindrome at
-// the end still stands and which is the longest there without the letter.
+// A removal. Whether the longest palindrome at the end still stands, and which is the longest there without the letter, is
+// told by whoever read the letters: a test of the store does.
+use ends::Reach;
 use outcome::answers::Removed;
 use store::header;
 use store::letters::Side;
 use store::rows;
 use walk::frame;
-use walk::replay;
 ghost use mathlib.Core.Path.{_≡_};
 ghost use mathlib.Core.Bool.{true, false};
 ghost use Prim.Native.Nat.{_<_};
 ghost use Rattle.store.specs.Good.{Good};
-ghost use Rattle.store.specs.Layout.{sizeIn};
+ghost use Rattle.store.specs.Layout.{sizeIn, usedIn, lettersIn};
 ghost use Rattle.store.specs.Side.{endOf};
+ghost use Rattle.ends.specs.Reach.{Reaches};
 ghost use Rattle.transitions.specs.Removal.{afterRemoval};
 ghost use Rattle.removal.specs.Steps.{Parts, Removes};
 
@@ -26,21 +27,21 @@ struct Parting {
 }
 
 // What the removal at a side of a record that is not empty finds.
-fn part(b: &[u8], side: Side) -> Parting
+fn part(b: &[u8], side: Side, reach: Reach) -> Parting
     requires { ⌜ Good (now b) ⌝ }
     requires { ⌜ 0 < sizeIn (now b) ⌝ }
+    requires { ⌜ Reaches (now b) (usedIn (now b)) (endOf side) (lettersIn (now b)) reach ⌝ }
     ensures { λ r. ⌜ Parts (now (b .entry)) (endOf side) r ⌝ }
 {
     let f = frame::frame_of(b);
     let row = header::end_row(b, side);
-    let found = replay::survey(b, side, f.n - 1, row);
     let longest = rows::length_of(b, row);
     let link = rows::link_of(b, row);
     Parting {
         letter: joining::letter_at(b, f.base, f.n, side),
         row,
-        met: found.met,
-        last: found.last,
+        met: reach.again,
+        last: reach.short,
         opposite: ends::across(b, side, longest, f.n, link),
     }
 }
@@ -73,12 +74,13 @@ fn leave_rows(b: &mut [u8], side: Side, p: Parting)
 }
 
 // Removes the letter at a side of a record that is not empty.
-pub fn remove(b: &mut [u8], side: Side) -> Removed
+pub fn remove(b: &mut [u8], side: Side, reach: Reach) -> Removed
     requires { ⌜ Good (now b) ⌝ }
     requires { ⌜ 0 < sizeIn (now b) ⌝ }
+    requires { ⌜ Reaches (now b) (usedIn (now b)) (endOf side) (lettersIn (now b)) reach ⌝ }
     ensures { λ r. ⌜ Removes (endOf side) (now (b .entry)) (now (b .exit)) r ⌝ }
 {
-    let p = part(b, side);
+    let p = part(b, side, reach);
     if p.met {
         leave_rows(b, side, p);
         return Removed::Kept(p.letter);

@@ -4,9 +4,7 @@ use mathlib.Core.Path.{_≡_, refl, sym, ap, _∙_, subst}
 use mathlib.Core.Bool.{Bool, true, false}
 use mathlib.Core.List.{[]}
 use native.Mathlib.Omega.{arith}
-use lib.Dec.{leb}
 use lib.ListN.{length}
-use borrow.Author.Tests.{leb-true, leb-false}
 use Rattle.palindromes.specs.Word.{Word}
 use Rattle.palindromes.specs.End.{End, letterAt}
 use Rattle.palindromes.specs.Refusal.{remove, refusal}
@@ -23,7 +21,7 @@ use Rattle.outcome.specs.Outcome.{viewIn, acceptedOutcome, changed}
 use Rattle.outcome.specs.Promise.{nothing, Promise}
 use Rattle.outcome.specs.Verdict.{Verdict, judged}
 use Rattle.outcome.proofs.Refusals.{remove-empty, remove-accepted}
-use Rattle.outcome.proofs.Promises.{cleared, carried}
+use Rattle.outcome.proofs.Promises.{carried}
 
 pub no-letter : (e : End) (b : Word) → Good b → sizeIn b ≡ 0 → Verdict (remove e) b nothing 6
 no-letter e b g h = judged g (sym (remove-empty b nothing e (no-letters (lettersIn b) (omega (arith, letters-length (g .sized))))))
@@ -32,22 +30,12 @@ no-letter e b g h = judged g (sym (remove-empty b nothing e (no-letters (letters
 some-letter : (b : Word) → Good b → (sizeIn b ≡ 0 → ⊥) → lettersIn b ≡ [] → ⊥
 some-letter b g n e = n (sym (letters-length (g .sized)) ∙ ap length e)
 
-pub can-remove : (e : End) (b : Word) → Good b → (sizeIn b ≡ 0 → ⊥) → Verdict (remove e) b nothing 0
-can-remove e b g n = judged g (sym (remove-accepted b nothing e (some-letter b g n)))
-
 pub record Removable (e : End) (b : Word) : Type 0 where
   pub good : Good b
-  pub some : 0 < sizeIn b
   pub clear : refusal (ruleOf b) (viewIn b nothing) (remove e) ≡ 0
 
-pub removable : (e : End) (b : Word) (n : ℕ) → Verdict (remove e) b nothing n → n ≡ 0 → Removable e b
-removable e b n v z =
-    let h = cleared (remove e) b nothing n v z in
-    record { good = h .0; some = some (h .0) (h .1) (leb (sizeIn b) 0) refl; clear = h .1 }
-  where
-    some : Good b → refusal (ruleOf b) (viewIn b nothing) (remove e) ≡ 0 → (t : Bool) → leb (sizeIn b) 0 ≡ t → 0 < sizeIn b
-    some g k true x = absurd (omega (arith, remove-empty b nothing e (no-letters (lettersIn b) (omega (arith, leb-true (sizeIn b) 0 x, letters-length (g .sized))))))
-    some g k false x = leb-false (sizeIn b) 0 x
+pub removable : (e : End) (b : Word) → Good b → 0 < sizeIn b → Removable e b
+removable e b g n = record { good = g; clear = remove-accepted b nothing e (some-letter b g λ z. omega arith) }
 
 -- the row of what a removal answers fits its two bytes
 pub removed-fits : (e : End) (b : Word) (a : Removed) → Removable e b → a ≡ removedOf (takesOut e b) (letterAt e (lettersIn b)) (endRow b e) → removedReply a .row < 65536

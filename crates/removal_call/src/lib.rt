@@ -2,36 +2,42 @@
 // and leaves every byte as the outcome of the call says.
 ghost use Rattle.palindromes.specs.End.{atLeft, atRight};
 ghost use Rattle.palindromes.specs.Refusal.{remove};
+ghost use Prim.Native.Nat.{_<_};
+ghost use Rattle.store.specs.Layout.{sizeIn, usedIn, lettersIn};
+ghost use Rattle.store.specs.Good.{Good};
 ghost use Rattle.store.specs.Side.{endOf};
+ghost use Rattle.ends.specs.Reach.{Reaches};
 ghost use Rattle.outcome.specs.Promise.{nothing, Promise};
-ghost use Rattle.outcome.specs.Verdict.{Verdict};
+use audit::Finding;
+use audit_tour::reach_at;
+use ends::Reach;
 use outcome::answers;
 use outcome::refuse;
 use store::header;
 use store::letters::Side;
 
-// The refusal number of a removal, 0 where it can be carried out.
-fn judge_remove(store: &[u8], side: Side) -> u64
-    ensures { λ n. ⌜ Verdict (remove (endOf side)) (now (store .entry)) nothing n ⌝ }
+// Removes the letter at a side of a good store that has one.
+fn remove_known(store: &mut [u8], side: Side, reach: Reach) -> u64
+    requires { ⌜ Good (now store) × (0 < sizeIn (now store)) ⌝ }
+    requires { ⌜ Reaches (now store) (usedIn (now store)) (endOf side) (lettersIn (now store)) reach ⌝ }
+    ensures { λ r. ⌜ Promise (remove (endOf side)) (now (store .entry)) nothing r (now (store .exit)) nothing ⌝ }
 {
-    if !audit::is_good(store) {
-        return 3;
-    }
-    if header::size(store) == 0 {
-        return 6;
-    }
-    0
+    answers::answer_removed(removal::remove(store, side, reach))
 }
 
-// Removes the letter at a side: the letter, and 1 and the row that went, or 0 and row 0.
+// Removes the letter at a side: the letter, and 1 and the row that went, or 0 and row 0. What a removal asks of the letters
+// the test has read.
 fn remove_letter(store: &mut [u8], side: Side) -> u64
     ensures { λ r. ⌜ Promise (remove (endOf side)) (now (store .entry)) nothing r (now (store .exit)) nothing ⌝ }
 {
-    let number = judge_remove(store, side);
-    if number != 0 {
-        return refuse(number);
+    let Finding::Sound(tour) = audit::examine(store) else {
+        return refuse(3);
+    };
+    if header::size(store) == 0 {
+        return refuse(6);
     }
-    answers::answer_removed(removal::remove(store, side))
+    let reach = reach_at(tour, side);
+    remove_known(store, side, reach)
 }
 
 // Removes the letter at the left end.

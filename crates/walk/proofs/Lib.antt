@@ -5,4 +5,3 @@ pub mod Towards
 pub mod Facing
 pub mod Stores
 pub mod Reading
-pub mod Right

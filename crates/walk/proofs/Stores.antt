@@ -10,9 +10,11 @@ use Rattle.palindromes.specs.Refusal.{storeSize}
 use Rattle.store.specs.Layout.{capacityIn, sizeIn, usedIn, lettersAt, lettersIn}
 use Rattle.store.specs.Good.{ruleOf, Sized}
 use Rattle.store.specs.Side.{endOf}
+use Rattle.store.specs.Writes.{towards}
 use Rattle.store.specs.declared.letters.Side.{Side}
+use Rattle.store.specs.declared.letters.Side.the-variants.{Right}
 use Rattle.store.proofs.Sizes.{used-below}
-use Rattle.walk.specs.Frame.{Frames, seenIn, partnerIn, Within}
+use Rattle.walk.specs.Frame.{Frames, standingIn, seenIn, partnerIn, Within}
 use Rattle.walk.specs.Replay.{lettersTowards}
 use Rattle.walk.specs.declared.frame.Frame.{Frame}
 use Rattle.walk.proofs.Found.{RowsFit}
@@ -40,6 +42,15 @@ module _ {b : Word} {f : Frame} (h : Frames b f) where
   pub framed-letters : (side : Side) → seenIn b f side ≡ lettersTowards b (endOf side)
   unfolding lettersIn
   framed-letters side = rw (h .reading-is, h .base-is, h .size-is)
+
+  -- at the right as they stand, whether a partner is asked for or not
+  pub framed-right : seenIn b f Right ≡ lettersIn b
+  unfolding towards
+  framed-right = framed-letters Right
+
+  pub framed-standing : standingIn b f Right ≡ lettersIn b
+  unfolding towards
+  framed-standing = framed-right
 
   -- and so is the partner rule
   pub framed-rule : (d : ℕ) → partnerIn f d ≡ ruleOf b d

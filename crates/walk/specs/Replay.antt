@@ -1,10 +1,9 @@
--- What the contracts of src/replay.rt say of a good store whose letters are read again, one after the other, towards an end.
+-- The letters of a store as they are read: towards the end that a letter joins, and again from left to right, as the contract of src/replay.rt says.
 use Prim.Native.Nat.{ℕ}
 use mathlib.Core.Path.{_≡_}
-use mathlib.Core.Bool.{Bool, true}
+use mathlib.Core.Bool.{true}
 use lib.ListN.{take}
 use Rattle.palindromes.specs.Word.{Word}
-use Rattle.palindromes.specs.Place.{stands}
 use Rattle.palindromes.specs.Record.{longestSuffix}
 use Rattle.palindromes.specs.End.{End, atLeft, atRight}
 use Rattle.palindromes.specs.Node.{spelt}
@@ -25,12 +24,7 @@ letterTowards σ atLeft c = σ c
 abbrev pub endingIn : Word → ℕ → Word
 endingIn b k = longestSuffix (ruleOf b) (take k (lettersIn b))
 
--- row r of the store is used, and holds the longest palindrome that ends the first k letters of t
-pub record Holds (b t : Word) (k r : ℕ) : Type 0 where
+-- row r of the store is used, and holds the longest palindrome that ends the first k letters
+pub record Holds (b : Word) (k r : ℕ) : Type 0 where
   pub used : usedIn b r ≡ true
-  pub holds : nodeIn b r ≡ spelt (longestSuffix (ruleOf b) (take k t))
-
--- what is known once the first k letters of t have been read: the row of the longest palindrome that ends them, and whether the palindrome of row r stands among them
-pub record Surveyed (b t : Word) (k r last : ℕ) (met : Bool) : Type 0 where
-  pub ends : Holds b t k last
-  pub tells : (w : Word) → nodeIn b r ≡ spelt w → met ≡ stands w (take k t)
+  pub holds : nodeIn b r ≡ spelt (endingIn b k)

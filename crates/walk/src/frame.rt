@@ -1,14 +1,12 @@
 // The frame of a store: where its letters lie and how they are read. It is taken from the header
 // once and handed to whatever reads letters.
-use partners::partner_in;
 use store::header;
 use store::letters::Side;
 ghost use mathlib.Core.Path.{_≡_};
 ghost use Prim.Native.Nat.{_+_, _<_, _≤_};
 ghost use lib.ListN.{length, getD};
-ghost use Rattle.partners.specs.Table.{PartnersIn};
 ghost use Rattle.store.specs.Good.{Sized};
-ghost use Rattle.walk.specs.Frame.{Frames, standingIn, seenIn};
+ghost use Rattle.walk.specs.Frame.{Frames, standingIn};
 
 // The partner rule's reading, the place of the first letter, how many letters stand, and how many
 // have room.
@@ -43,18 +41,5 @@ pub fn standing(b: &[u8], f: Frame, side: Side, i: usize) -> u8
     match side {
         Side::Right => b[base + i],
         Side::Left => b[base + (n - 1 - i)],
-    }
-}
-
-// Letter i of the frame, read towards a side.
-pub fn seen(b: &[u8], f: Frame, partners: &[u8; 256], side: Side, i: usize) -> u8
-    requires { ⌜ (f .base + f .n ≤ length (now b)) × (i < f .n) ⌝ }
-    requires { ⌜ PartnersIn (f .reading) (now partners) ⌝ }
-    ensures { λ r. ⌜ r ≡ getD (seenIn (now (b .entry)) f side) i 0 ⌝ }
-{
-    let c = standing(b, f, side, i);
-    match side {
-        Side::Right => c,
-        Side::Left => partner_in(partners, c),
     }
 }

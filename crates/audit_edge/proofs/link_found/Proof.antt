@@ -9,9 +9,8 @@ use Rattle.walk.specs.Frame.{Frames, seenIn, partnerIn}
 use Rattle.walk.specs.Walk.{Chain, Stepped}
 use Rattle.walk.specs.declared.frame.Frame.{Frame}
 use Rattle.walk.proofs.Chains.{chain-fits, chain-next}
-use Rattle.walk.proofs.Stores.{framed-rule, framed-within}
+use Rattle.walk.proofs.Stores.{framed-right, framed-rule, framed-within}
 use Rattle.audit_edge.specs.Edge.{LinkFound, alone, within}
-use Rattle.audit_edge.proofs.Edge.{framed-right}
 use Rattle.audit_edge.proofs.link_found.Statement.{statement}
 use Rattle.audit_edge.proofs.link_found.Tie as tie
 

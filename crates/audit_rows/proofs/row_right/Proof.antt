@@ -1,56 +1,52 @@
--- `audit_rows::row_right` decides whether a row is right: a free row by its cells, and another by whether it was met and by its edges. Assumes nothing.
+-- `audit_rows::row_right` decides whether a row has a place that names it and carries what was counted: each of its tests is one part of what is asked. Assumes nothing.
+use Prim.Native.Nat.{_+_}
 use native.Mathlib.Omega.{arith}
-use borrow.Author.Tests.{not-true, not-false}
-use mathlib.Core.Path.{_≡_, sym, _∙_}
-use mathlib.Core.Bool.{true}
-use Rattle.store.specs.Layout.{usedIn}
+use mathlib.Core.Path.{sym, ap, _∙_}
+use Rattle.store.specs.Layout.{orderIn}
 use Rattle.transitions.proofs.Rows.{row-fits}
-use Rattle.audit_rows.proofs.Rows.{free-decided, unmet-fails, used-decided}
 use Rattle.audit_rows.proofs.row_right.Statement.{statement}
 use Rattle.audit_rows.proofs.row_right.Tie as tie
 
--- the entry, from behind the first test; and that the row is in use there
-abbrev entry : tie.Else1 → tie.Start
-entry c = c .before .before .before .before
+-- the rank, from behind each test, and the entry from behind the rank
+abbrev entry : tie.After-rank-of → tie.Start
+entry c = c .before .before .before
 
-used : (c : tie.Else1) → usedIn (entry c .args .b .now) (entry c .args .r) ≡ true
-used c = sym (c .before .in-use .ensures) ∙ not-false (c .before .in-use .result) (c .if1 .left)
+abbrev at-rank : tie.Else2 → tie.After-rank-of
+at-rank c = c .before .before .before
 
-zeros-requires : tie.Need-zeros-requires
-zeros-requires c κs =
-    let s = c .before .before .before .before in
-    (row-fits (s .pre .sized) (s .args .r) (s .pre .inside), omega arith)
+abbrev at-place : tie.After-counted-at → tie.Else2
+at-place c = c .before .before
 
-returns : tie.Need-returns
-returns c =
-    let s = c .before .before .before .before .before in
-    let u = c .before .before .in-use in
-    free-decided (s .args .b .now) (s .args .marks .now) (s .args .r) (sym (u .ensures) ∙ not-true (u .result) (c .before .if1 .taken)) (c .zeros .result) (c .zeros .ensures)
-
-met-requires : tie.Need-met-requires
-met-requires c κs = let p = entry c .pre in omega (arith, p .inside, p .sized .at-most, p .marked)
+order-of-requires : tie.Need-order-of-requires
+order-of-requires c κs =
+    let s = entry (c .before) in
+    row-fits (s .pre .sized) (c .before .rank-of .result + 2) (omega (arith, c .if1 .left, s .pre .capacity-is))
 
 returns-2 : tie.Need-returns-2
-returns-2 c =
-    let s = entry (c .before .before) in
-    let m = c .before .met in
-    unmet-fails (s .args .b .now) (s .args .marks .now) (s .args .r) (used (c .before .before)) (sym (m .ensures) ∙ not-true (m .result) (c .if2 .taken))
+returns-2 c h =
+    let rank = c .before .before .before in
+    c .if2 .taken (c .before .order-of .ensures .0 ∙ ap (orderIn (entry rank .args .b .now)) (rank .rank-of .ensures .0) ∙ h .rank .back)
 
-returns-3 : tie.Need-returns-3
-returns-3 c =
-    let first = c .before .before .before in
-    let s = entry first in
-    let m = c .before .before .met in
-    used-decided (s .args .b .now) (s .args .marks .now) (s .args .r) (used first) (sym (m .ensures) ∙ not-false (m .result) (c .before .if2 .left)) (c .edges-right .result) (c .edges-right .ensures)
+returns-4 : tie.Need-returns-4
+returns-4 c =
+    let place = at-place (c .before) in
+    let rank = at-rank place in
+    let s = entry rank in
+    let i = rank .rank-of .ensures .0 in
+    record {
+      rank = record { high = omega (arith, i, place .before .before .if1 .left, s .pre .capacity-is); back = sym (place .before .order-of .ensures .0 ∙ ap (orderIn (s .args .b .now)) i) ∙ place .if2 .left };
+      carries = sym (c .before .before .get .ensures .0) ∙ c .if3 .left ∙ c .before .counted-at .ensures;
+    }
 
 pub row-right-spec : {M : Type 1} → statement M
 row-right-spec =
     tie.close
     (tie.spec
-    (λ c κs. let p = c .before .before .pre in (p .sized, p .inside))
-    zeros-requires
-    returns
-    met-requires
+    (λ c κs. let s = c .before .before in row-fits (s .pre .sized) (s .args .r) (s .pre .inside))
+    (λ c h. omega (arith, c .if1 .taken, c .before .rank-of .ensures .0, h .rank .high, entry (c .before) .pre .capacity-is))
+    order-of-requires
     returns-2
-    (λ c κs. entry (c .before .before) .pre)
-    returns-3)
+    (λ c κs. let s = entry (at-rank c) in omega (arith, row-fits (s .pre .sized) (s .args .r) (s .pre .inside)))
+    (λ c κs. let s = entry (at-rank (c .before)) in omega (arith, s .pre .inside, s .pre .sized .at-most, s .pre .long))
+    (λ c h. c .if3 .taken (c .before .before .get .ensures .0 ∙ h .carries ∙ sym (c .before .counted-at .ensures)))
+    returns-4)

@@ -10,10 +10,12 @@ use Rattle.palindromes.specs.Word.{Word}
 use Rattle.walk.proofs.Stores.{rows-fit}
 use Rattle.transitions.proofs.Rows.{row-fits}
 use Rattle.audit_fixed.proofs.Decided.{holds, fails}
+use Rattle.ends.specs.declared.Reach.{Reach}
+use Rattle.audit_left.specs.Left.{LeftAfter}
 use Rattle.audit_edge.specs.Edge.{PointsBack, NewRow}
 use Rattle.audit_tour.specs.Tour.{Reading}
 use Rattle.audit_tour.specs.declared.Tour.{Tour}
-use Rattle.audit_tour.proofs.Letter.{met-most, grown-walkable, new-countable, tour-old, tour-new, good-back, good-new}
+use Rattle.audit_tour.proofs.Letter.{met-most, grown-walkable, new-countable, old-link, new-link, tour-old, tour-new, good-back, good-new}
 use Rattle.audit_tour.proofs.enter.Statement.{statement}
 use Rattle.audit_tour.proofs.enter.Tie as tie
 
@@ -54,19 +56,27 @@ returns c g =
     let p = c .before .before .before .before .before .before .pre in
     fails _ (c .before .points-back .result) (c .before .points-back .ensures) (c .if1 .taken) (good-back (p .1 .0) (p .1 .1) g (c .before .before .edge-of .ensures .0))
 
-left-after-requires : tie.Need-left-after-requires
-left-after-requires c κs =
-    let s = from-back c .pre .1 .0 in
-    (row-fits (s .ready .sized) (c .before .before .edge-of .result) (named c .high), omega (arith, k-small s))
-
 slice-read-if2 : tie.Need-slice-read-if2
 slice-read-if2 c = mark-of (from-back (c .before .before) .pre .1 .0) (c .before .before .before .before .edge-of .result) (named (c .before .before))
 
+-- from behind the mark of a row met before: the first test
+abbrev first-of : tie.Then2 → tie.Else1
+first-of c = c .before .before .before
+
+left-after-requires : tie.Need-left-after-requires
+left-after-requires c κs =
+    let first = first-of c in
+    let p = from-back first .pre .1 in
+    (row-fits (p .0 .ready .sized) (first .before .before .edge-of .result) (named first .high), old-link (p .0) (p .1) (first .before .before .edge-of .result) (c .if2 .taken), omega (arith, k-small (p .0)))
+
 returns-2 : tie.Need-returns-2
 returns-2 c =
-    let first = c .before .before .before in
-    let p = from-back first .pre in
-    tour-old (p .1 .0) (p .1 .1) (named first) (c .if2 .taken) (c .before .before .left-after .ensures)
+    let t = c .before .before in
+    let first = first-of t in
+    let s = from-back first in
+    let q = first .before .before .edge-of .result in
+    tour-old (s .pre .1 .0) (s .pre .1 .1) (named first) (t .if2 .taken)
+    (subst (λ (x : Reach). LeftAfter (s .args .b .now) (s .args .k) q q x (c .before .left-after .result)) (t .before .before .reach-at .ensures) (c .before .left-after .ensures)) (c .arrive .ensures)
 
 new-row-right-requires : tie.Need-new-row-right-requires
 new-row-right-requires c κs =
@@ -101,18 +111,30 @@ count-row-requires c κs =
     let p = from-back first .pre in
     new-countable (p .1 .0) (p .1 .1) (named first) (right (c .before))
 
-add-met : tie.Need-add-t21
-add-met c = omega (arith, met-small (from-back (back-of-new (c .before .before .before .before .before)) .pre .1 .0))
+-- behind the counting of the row: the third test
+abbrev third-of : tie.After-link-of → tie.Else3
+third-of c = c .before .before .before .before .before
+
+left-after-requires-2 : tie.Need-left-after-requires-2
+left-after-requires-2 c κs =
+    let third = third-of c in
+    let first = back-of-new third in
+    let p = from-back first .pre .1 in
+    (row-fits (p .0 .ready .sized) (first .before .before .edge-of .result) (named first .high), new-link (p .0) (p .1) (named first) (right third), omega (arith, k-small (p .0)))
 
 returns-4 : tie.Need-returns-4
 returns-4 c =
-    let counted = c .before .before .before in
-    let third = counted .before .before in
+    let known = c .before .before in
+    let link = known .before in
+    let counted = link .before .before .before in
+    let third = third-of link in
     let second = third .before .before in
     let first = back second in
     let s = from-back first in
     let q = first .before .before .edge-of in
-    tour-new (s .pre .1 .0) (s .pre .1 .1) (named first) (q .ensures .0) (second .if2 .left) (right third) (second .before .before .left-after .ensures) (counted .count-row .kept .1 .0) (counted .count-row .ensures)
+    tour-new (s .pre .1 .0) (s .pre .1 .1) (named first) (q .ensures .0) (second .if2 .left) (right third) (link .link-of .ensures .0)
+    (subst (λ (x : Reach). LeftAfter (s .args .b .now) (s .args .k) (q .result) (link .link-of .result) x (known .left-after2 .result)) (second .before .before .reach-at .ensures) (known .left-after2 .ensures))
+    (c .arrive2 .ensures) (counted .count-row .kept .1 .0) (counted .count-row .ensures)
 
 pub enter-spec : {M : Type 1} → statement M
 enter-spec =
@@ -121,14 +143,19 @@ enter-spec =
     edge-of-requires
     (λ c κs. c .before .before .before .before .pre .1 .0 .ready .sized)
     returns
-    left-after-requires
+    (λ c κs. search needs)
     slice-read-if2
+    left-after-requires
+    (λ c κs. search needs)
     returns-2
     new-row-right-requires
     returns-3
     slice-write-marks
     count-row-requires
-    add-met
+    (λ c κs. let first = back-of-new (c .before .before .before .before) in row-fits (from-back first .pre .1 .0 .ready .sized) (first .before .before .edge-of .result) (named first .high))
+    left-after-requires-2
+    (λ c. omega (arith, met-small (from-back (back-of-new (third-of (c .before .before))) .pre .1 .0)))
+    (λ c κs. search needs)
     (λ c. search needs)
     (λ c. search needs)
     returns-4)

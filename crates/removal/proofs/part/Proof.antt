@@ -9,7 +9,7 @@ use Rattle.store.proofs.Signed.{kept}
 use Rattle.walk.proofs.Stores.{header-fits, framed-within}
 use Rattle.transitions.specs.Removal.{longestBefore}
 use Rattle.transitions.proofs.Rows.{used-fits}
-use Rattle.removal.proofs.Removals.{end-high, end-length, parted}
+use Rattle.removal.proofs.Removals.{end-length, parted}
 use Rattle.removal.proofs.part.Statement.{statement}
 use Rattle.removal.proofs.part.Tie as tie
 
@@ -20,11 +20,8 @@ entry c = c .before .before
 abbrev at-frame : tie.After-end-row → tie.After-frame-of
 at-frame c = c .before
 
-abbrev at-end : tie.After-survey → tie.After-end-row
-at-end c = c .before .before
-
-abbrev at-survey : tie.After-length-of → tie.After-survey
-at-survey c = c .before
+abbrev at-end : tie.After-length-of → tie.After-end-row
+at-end c = c .before
 
 abbrev at-length : tie.After-link-of → tie.After-length-of
 at-length c = c .before
@@ -34,28 +31,19 @@ at-link c = c .before
 
 -- the reading of the header, from behind the reading of the link
 abbrev from-link : tie.After-link-of → tie.After-frame-of
-from-link c = at-frame (at-end (at-survey (at-length c)))
+from-link c = at-frame (at-end (at-length c))
 
 end-row-requires : tie.Need-end-row-requires
 end-row-requires c κs = header-fits (entry c .pre .0 .sized)
 
-survey-requires : tie.Need-survey-requires
-survey-requires c κs =
-    let r = c .before in
-    let s = entry (at-frame r) in
-    let g = s .pre .0 in
-    let e = endOf (s .args .side) in
-    (g, (omega (arith, at-frame r .frame-of .ensures .size-is), rw (r .end-row .ensures .0) (g .ends e .used, end-high g e)))
-
 length-of-requires : tie.Need-length-of-requires
 length-of-requires c κs =
-    let r = at-end c in
-    let s = entry (at-frame r) in
+    let s = entry (at-frame c) in
     let e = endOf (s .args .side) in
-    rw (r .end-row .ensures .0) (used-fits (s .pre .0) (endRow (s .args .b .now) e) (s .pre .0 .ends e .used))
+    rw (c .end-row .ensures .0) (used-fits (s .pre .0) (endRow (s .args .b .now) e) (s .pre .0 .ends e .used))
 
 link-of-requires : tie.Need-link-of-requires
-link-of-requires c κs = length-of-requires (at-survey c) κs
+link-of-requires c κs = length-of-requires (at-end c) κs
 
 letter-at-requires : tie.Need-letter-at-requires
 letter-at-requires c κs =
@@ -74,17 +62,16 @@ returns c =
     let letter = c .before in
     let link = at-link letter in
     let l = at-length link .length-of .ensures in
-    let survey = at-survey (at-length link) in
-    let row = at-end survey .end-row .ensures .0 in
+    let row = at-end (at-length link) .end-row .ensures .0 in
     let f = from-link link .frame-of .ensures in
     let s = entry (from-link link) in
     let b = s .args .b .now in
     let e = endOf (s .args .side) in
     let g = s .pre .0 in
     let opposite = c .across .ensures (length (longestBefore e b)) (kept (l .1) ∙ l .0 ∙ ap (lengthIn b) row ∙ end-length g e) in
-    parted g e (f .base-is) (f .size-is) row (survey .survey .ensures) (letter .letter-at .ensures) (link .link-of .ensures .0) opposite
+    parted g e (f .base-is) (f .size-is) row (s .pre .1 .1) (letter .letter-at .ensures) (link .link-of .ensures .0) opposite
 
 pub part-spec : {M : Type 1} → statement M
 part-spec =
     tie.close
-    (tie.spec (λ c κs. search needs) end-row-requires (λ c. search needs) survey-requires length-of-requires link-of-requires letter-at-requires across-requires returns)
+    (tie.spec (λ c κs. search needs) end-row-requires length-of-requires link-of-requires letter-at-requires across-requires returns)

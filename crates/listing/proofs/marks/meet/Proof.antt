@@ -4,10 +4,9 @@ use native.Mathlib.Omega.{arith}
 use borrow.Author.Needs.{needs}
 use mathlib.Core.Path.{_≡_, ap, _∙_}
 use lib.ListN.{length, getD}
-use Rattle.store.specs.Layout.{lettersIn}
 use Rattle.transitions.proofs.Rows.{used-fits}
 use Rattle.walk.specs.Replay.{endingIn, Holds}
-use Rattle.walk.proofs.Right.{to-right, from-right, ending-length, ending-most}
+use Rattle.walk.proofs.Reading.{ending-length, ending-most}
 use Rattle.listing.proofs.Marking.{rank-below, stood-root, stood-marked, reads-old, reads-new}
 use Rattle.listing.proofs.marks.meet.Statement.{statement}
 use Rattle.listing.proofs.marks.meet.Tie as tie
@@ -20,8 +19,8 @@ abbrev from-rank : tie.After-rank-of → tie.After-spelling-length
 from-rank c = c .before .before
 
 -- the palindrome that ends the letters read now: its row, how long it is and where it begins
-ending : (c : tie.After-spelling-length) → Holds (from-length c .args .b .now) (lettersIn (from-length c .args .b .now)) (from-length c .args .k + 1) (c .before .next .result)
-ending c = from-right (c .before .next .ensures)
+ending : (c : tie.After-spelling-length) → Holds (from-length c .args .b .now) (from-length c .args .k + 1) (c .before .next .result)
+ending c = c .before .next .ensures
 
 here : (c : tie.After-spelling-length) → c .spelling-length .result ≡ length (endingIn (from-length c .args .b .now) (from-length c .args .k + 1))
 here c = c .spelling-length .ensures ∙ ending-length (ending c)
@@ -31,7 +30,7 @@ begins : (c : tie.After-spelling-length)
 begins c = ap (λ (n : ℕ). from-length c .args .k + 1 - n) (here c)
 
 next-requires : tie.Need-next-requires
-next-requires c κs = let p = c .before .before .pre in (p .0, (p .1 .0 .0, (p .1 .0 .1, (p .1 .1 .0, to-right (p .1 .1 .1 .ends)))))
+next-requires c κs = let p = c .before .before .pre in (p .0, (p .1 .0 .0, (p .1 .0 .1, (p .1 .1 .0, p .1 .1 .1 .ends))))
 
 sub-start : tie.Need-sub-start
 sub-start c = let a = from-length c .args in omega (arith, here c, ending-most (a .b .now) (a .k + 1))

@@ -10,7 +10,7 @@ use Rattle.store.specs.Layout.{lettersIn}
 use Rattle.store.specs.Good.{ruleOf}
 use Rattle.store.proofs.Sizes.{letters-length}
 use Rattle.walk.specs.Replay.{endingIn, Holds}
-use Rattle.walk.proofs.Right.{to-right, from-right, right-first, ending-length, ending-most}
+use Rattle.walk.proofs.Reading.{holds-first, ending-length, ending-most}
 use Rattle.longest_palindrome.proofs.Best.{Best, best-first, best-next, best-last}
 use Rattle.longest_palindrome.proofs.whole.longest.Statement.{statement}
 use Rattle.longest_palindrome.proofs.whole.longest.Tie as tie
@@ -18,7 +18,7 @@ use Rattle.longest_palindrome.proofs.whole.longest.Tie as tie
 -- what holds when the first k of n letters have been read
 record Turn (b : Word) (n row length place k : ℕ) : Type 0 where
   read : k ≤ n
-  ends : Holds b (lettersIn b) k row
+  ends : Holds b k row
   best : Best (ruleOf b) (lettersIn b) k length place
 
 abbrev Inv-loop : tie.InvT-loop
@@ -40,18 +40,18 @@ size c = omega (arith, c .before .before .frame-of .ensures .size-is, letters-le
 
 -- the palindrome that ends the letters read now
 here : (c : tie.After-spelling-length Inv-loop μ-loop) → c .spelling-length .result ≡ length (endingIn (from-loop (from-length c) .args .b .now) (from-length c .loop .k + 1))
-here c = c .spelling-length .ensures ∙ ending-length (from-right (c .before .next .ensures))
+here c = c .spelling-length .ensures ∙ ending-length ((c .before .next .ensures))
 
 loop-holds : tie.Need-loop-holds Inv-loop μ-loop
 loop-holds c =
     let s = c .before .before .before in
-    record { read = omega arith; ends = right-first (s .pre); best = best-first (ruleOf (s .args .b .now)) (lettersIn (s .args .b .now)) }
+    record { read = omega arith; ends = holds-first (s .pre); best = best-first (ruleOf (s .args .b .now)) (lettersIn (s .args .b .now)) }
 
 next-requires : tie.Need-next-requires Inv-loop μ-loop
 next-requires c κs =
     let t = c .before .before .before in
     let f = t .before .before .frame-of .ensures in
-    (from-loop t .pre, (f, (t .before .table .ensures, (omega (arith, f .size-is), to-right (t .loop .inv .ends)))))
+    (from-loop t .pre, (f, (t .before .table .ensures, (omega (arith, f .size-is), t .loop .inv .ends))))
 
 sub-place : tie.Need-sub-place Inv-loop μ-loop
 sub-place c =
@@ -67,7 +67,7 @@ loop-again c =
     let test = q .before .before .before .if1 .taken in
     record {
       read = omega (arith, test);
-      ends = from-right (q .before .next .ensures);
+      ends = (q .before .next .ensures);
       best = best-next (ruleOf b) (lettersIn b) (i .k) (i .length) (i .place) (q .spelling-length .result) (omega (arith, test, size t)) (i .inv .best) (here q) (c .if2 .length) (c .if2 .place)
           (⊎-elim (λ w. inl (w .0 .taken, w .1, w .2)) (λ w. inr (w .0 .left, w .1, w .2)) (c .if2 .came));
     }

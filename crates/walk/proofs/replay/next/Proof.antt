@@ -7,35 +7,32 @@ use borrow.Author.Needs.{needs}
 use Rattle.palindromes.specs.Word.{Word}
 use Rattle.store.specs.Layout.{sizeIn}
 use Rattle.store.specs.Good.{Good}
-use Rattle.store.specs.Side.{endOf}
-use Rattle.store.specs.declared.letters.Side.{Side}
-use Rattle.walk.specs.Frame.{Frames, seenIn, partnerIn}
+use Rattle.store.specs.declared.letters.Side.the-variants.{Right}
+use Rattle.walk.specs.Frame.{Frames, standingIn, seenIn, partnerIn}
 use Rattle.walk.specs.Walk.{Stepped}
-use Rattle.walk.specs.Replay.{lettersTowards, Holds}
+use Rattle.walk.specs.Replay.{Holds}
 use Rattle.walk.specs.declared.frame.Frame.{Frame}
-use Rattle.walk.proofs.Stores.{framed-letters, framed-rule, framed-within}
+use Rattle.walk.proofs.Stores.{framed-right, framed-standing, framed-rule, framed-within}
 use Rattle.walk.proofs.Reading.{good-chain, good-step}
 use Rattle.walk.proofs.replay.next.Statement.{statement}
 use Rattle.walk.proofs.replay.next.Tie as tie
 
 -- the step over the letters that the frame shows
-stepped : {b : Word} {f : Frame} → Good b → Frames b f → (side : Side) (k row d q : ℕ) → k < sizeIn b → Holds b (lettersTowards b (endOf side)) k row
-    → d ≡ getD (seenIn b f side) k 0 → Stepped b (seenIn b f side) k d (partnerIn f d) row q
-    → Holds b (lettersTowards b (endOf side)) (k + 1) q
-stepped {b} g h side k row d q l a e s =
-    let same = framed-letters h side in
-    good-step g (endOf side) k row q d l (e ∙ ap (λ (t : Word). getD t k 0) same) a
-    (subst₂ (λ (t : Word) (want : ℕ). Stepped b t k d want row q) same (framed-rule h d) s)
+stepped : {b : Word} {f : Frame} → Good b → Frames b f → (k row d q : ℕ) → k < sizeIn b → Holds b k row → d ≡ getD (standingIn b f Right) k 0
+    → Stepped b (seenIn b f Right) k d (partnerIn f d) row q → Holds b (k + 1) q
+stepped {b} g h k row d q l a e s =
+    good-step g l (e ∙ ap (λ (t : Word). getD t k 0) (framed-standing h)) a q
+    (subst₂ (λ (t : Word) (want : ℕ). Stepped b t k d want row q) (framed-right h) (framed-rule h d) s)
 
-seen-requires : tie.Need-seen-requires
-seen-requires c κs =
+standing-requires : tie.Need-standing-requires
+standing-requires c κs =
     let s = c .before in
     let w = framed-within (s .pre .1 .0) (s .pre .0 .sized) (s .args .k + 1) (omega arith) in
-    ((w .letters, omega (arith, w .read)), s .pre .1 .1 .0)
+    (w .letters, omega (arith, w .read))
 
 -- the letter that must face the next one
-wanted : (c : tie.After-partner-in) → c .partner-in .result ≡ partnerIn (c .before .before .before .args .f) (c .before .seen .result)
-wanted c = c .partner-in .ensures ∙ c .before .before .before .pre .1 .1 .0 (c .before .seen .result) (search needs)
+wanted : (c : tie.After-partner-in) → c .partner-in .result ≡ partnerIn (c .before .before .before .args .f) (c .before .standing .result)
+wanted c = c .partner-in .ensures ∙ c .before .before .before .pre .1 .1 .0 (c .before .standing .result) (search needs)
 
 step-requires : tie.Need-step-requires
 step-requires c κs =
@@ -46,8 +43,8 @@ returns : tie.Need-returns
 returns c =
     let s = c .before .before .before .before in
     let a = s .args in
-    let seen = c .before .before .seen in
-    stepped (s .pre .0) (s .pre .1 .0) (a .side) (a .k) (a .row) (seen .result) (c .step .result) (s .pre .1 .1 .1 .0) (s .pre .1 .1 .1 .1) (seen .ensures) (c .step .ensures)
+    let d = c .before .before .standing in
+    stepped (s .pre .0) (s .pre .1 .0) (a .k) (a .row) (d .result) (c .step .result) (s .pre .1 .1 .1 .0) (s .pre .1 .1 .1 .1) (d .ensures) (c .step .ensures)
 
 pub next-spec : {M : Type 1} → statement M
-next-spec = tie.close (tie.spec seen-requires (λ c κs. search needs) step-requires returns)
+next-spec = tie.close (tie.spec standing-requires (λ c κs. search needs) step-requires returns)

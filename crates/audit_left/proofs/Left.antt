@@ -1,0 +1,158 @@
+-- The left end with one letter more at the right. Where no palindrome ends the letters it stays (`left-none`). Else it is as the code of `left_after` says, by whether the longest that
+-- ends the letters is all of them (`left-whole`) or not (`left-kept`). Rests on what begins letters (`Prefixes`), on what stood (`Stood`), and on the rows of the longest and of its link.
+use Prim.Native.Nat.{ℕ, _+_, _≤_}
+use native.Mathlib.Omega.{arith}
+use mathlib.Core.Path.{_≡_, refl, sym, ap, _∙_, subst}
+use mathlib.Core.Bool.{Bool, true, false, cond, _||_}
+use mathlib.Core.Logic.{inl, inr, ⊎-elim}
+use mathlib.Core.List.{[], _∷_, _++_}
+use lib.Dec.{eqb}
+use lib.IntN.{pos}
+use lib.ListN.{length, length-append}
+use borrow.Author.Tests.{eqb-true, eqb-false, eq-eqb}
+use Rattle.palindromes.specs.Word.{Word}
+use Rattle.palindromes.specs.Palindrome.{SelfInverse}
+use Rattle.palindromes.specs.Place.{Stands, stands}
+use Rattle.palindromes.specs.Record.{longestSuffix, longestPrefix}
+use Rattle.palindromes.specs.End.{atLeft, removed, longestAt}
+use Rattle.palindromes.specs.Node.{spelt, lengthOf, linkOf}
+use Rattle.palindromes.proofs.Tests.{not-true-false}
+use Rattle.palindromes.proofs.Lists.{same-test, either-true, left-is, right-is}
+use Rattle.palindromes.proofs.Words.{stands-length, suffix-length, suffix-full}
+use Rattle.palindromes.proofs.Longest.{longest-suffix}
+use Rattle.palindromes.proofs.NewIn.{longest-at}
+use Rattle.palindromes.proofs.Places.{stands-true, stands-is, stands-empty}
+use Rattle.palindromes.proofs.Readings.{rule-inverse}
+use Rattle.store.specs.Layout.{readingIn, lengthIn, linkIn}
+use Rattle.store.specs.Good.{ruleOf, nodeIn}
+use Rattle.ends.specs.Reach.{Reaches}
+use Rattle.ends.specs.declared.Reach.{Reach}
+use Rattle.audit_left.specs.Left.{Stood, old, new, Reads}
+use Rattle.audit_left.proofs.Prefixes.{rest, rest-length, link-whole, ends-rest, prefix-kept, prefix-whole, short-all, short-kept, short-none}
+use Rattle.audit_left.proofs.Stood.{StoodIn, stood-old, stood-new, again-there, again-back}
+
+-- the store's partner rule undoes itself
+inverse : (b : Word) → SelfInverse (ruleOf b)
+inverse b = rule-inverse (readingIn b)
+
+module _ {b : Word} {used : ℕ → Bool} {p : Word} {d k q x : ℕ} (s : Reads b used p d k q x) where
+  -- the length that row q stores
+  pub size-is : lengthIn b q ≡ pos (length (longestSuffix (ruleOf b) (p ++ (d ∷ []))))
+  unfolding lengthOf
+  size-is = s .covers .length-is q (s .row-used) ∙ ap lengthOf (s .row-holds)
+
+  -- the row of the longest that stood
+  stood-row : Stood b p d q x → (w : Word) × (used x ≡ true) × (nodeIn b x ≡ spelt w) × StoodIn (ruleOf b) p d w
+  stood-row (old h e) = (longestSuffix (ruleOf b) (p ++ (d ∷ [])), subst (λ (r : ℕ). used r ≡ true) (sym e) (s .row-used), ap (nodeIn b) e ∙ s .row-holds, stood-old (ruleOf b) p d h)
+  stood-row (new n e) =
+      let i = s .covers .link-is q (s .row-used) in
+      let o = stood-new (ruleOf b) p d n in
+      (o .0, subst (λ (r : ℕ). used r ≡ true) (sym e) (i .0), ap (nodeIn b) e ∙ i .1 ∙ ap (linkOf (ruleOf b)) (s .row-holds) ∙ o .1, o .2)
+
+  module _ {left : Reach} (l : Reaches b used atLeft p left) where
+    -- the row of the longest that begins the letters but the first, from that of the longest that ends them
+    short-row : {r short : ℕ} → used r ≡ true → nodeIn b r ≡ spelt (longestSuffix (ruleOf b) (rest p d)) → ((n : ℕ) → lengthIn b r ≡ pos n → short ≡ cond (eqb n k) r (left .short))
+        → (used short ≡ true) × (nodeIn b short ≡ spelt (longestPrefix (ruleOf b) (rest p d)))
+    unfolding lengthOf longestAt
+    short-row {r} {short} u h f = go (eqb size k) refl (f size (s .covers .length-is r u ∙ ap lengthOf h))
+      where
+        size : ℕ
+        size = length (longestSuffix (ruleOf b) (rest p d))
+
+        go : (t : Bool) → eqb size k ≡ t → short ≡ cond t r (left .short) → (used short ≡ true) × (nodeIn b short ≡ spelt (longestPrefix (ruleOf b) (rest p d)))
+        go true t e = rw e (u, h ∙ ap spelt (sym (short-all (ruleOf b) p d (inverse b) (eqb-true size k t ∙ s .size))))
+        go false t e = rw e (l .short-used, l .short-holds ∙ ap spelt (sym (short-kept (ruleOf b) p d (inverse b) λ i. eqb-false size k t (i ∙ sym (s .size)))))
+
+    -- what began the letters stands in them but the first exactly if it did, or its row is that of the longest that stood
+    stands-rest : (eqb x (left .row) || left .again) ≡ stands (longestPrefix (ruleOf b) p) (rest p d)
+    unfolding longestAt
+    stands-rest = same-test (eqb x (left .row) || left .again) (stands w (rest p d)) there back
+      where
+        w : Word
+        w = longestPrefix (ruleOf b) p
+
+        there : (eqb x (left .row) || left .again) ≡ true → stands w (rest p d) ≡ true
+        there h =
+            let o = stood-row (s .stood) in
+            stands-is w (rest p d)
+            (again-back (ruleOf b) p d (o .3)
+            (⊎-elim
+            (λ e. let f : nodeIn b x ≡ nodeIn b (left .row) = ap (nodeIn b) (eqb-true x (left .row) e) in inl (cc (o .2, l .row-holds)))
+            (λ e. inr (stands-true w (removed atLeft p) (sym (l .again-is) ∙ e)))
+            (either-true (eqb x (left .row)) (left .again) h)))
+
+        back : stands w (rest p d) ≡ true → (eqb x (left .row) || left .again) ≡ true
+        back h =
+            let o = stood-row (s .stood) in
+            let a = longest-at (ruleOf b) (inverse b) atLeft p in
+            ⊎-elim
+            (λ e. left-is (eqb x (left .row)) (left .again) (eq-eqb x (left .row) (s .covers .one-row x (left .row) (o .1) (l .row-used) (o .2 ∙ ap spelt e ∙ sym (l .row-holds)))))
+            (λ e. right-is (eqb x (left .row)) (left .again) (l .again-is ∙ stands-is w (removed atLeft p) e))
+            (again-there (ruleOf b) p d (o .3) (a .0) (a .1) (stands-true w (rest p d) h))
+
+    -- the longest that ends the letters is all of them, and stands nowhere else
+    pub left-whole : {short : ℕ} → length (longestSuffix (ruleOf b) (p ++ (d ∷ []))) ≡ k + 1 → ((n : ℕ) → lengthIn b (linkIn b q) ≡ pos n → short ≡ cond (eqb n k) (linkIn b q) (left .short))
+        → Reaches b used atLeft (p ++ (d ∷ [])) (record { row = q; short = short; again = false })
+    unfolding longestAt
+    left-whole {short} n f =
+        let i = s .covers .link-is q (s .row-used) in
+        let all = suffix-full (longest-suffix (ruleOf b) (p ++ (d ∷ [])) .suffix) (omega (arith, s .size, length-append p (d ∷ []))) in
+        let e = prefix-whole (ruleOf b) p d (inverse b) (omega (arith, s .size)) in
+        let r = short-row (i .0) (i .1 ∙ ap (linkOf (ruleOf b)) (s .row-holds ∙ ap spelt all) ∙ link-whole (ruleOf b) p d) f in
+        record {
+          row-used = s .row-used;
+          row-holds = s .row-holds ∙ ap spelt (sym e);
+          short-used = r .0;
+          short-holds = r .1;
+          again-is =
+              sym (not-true-false (stands (longestPrefix (ruleOf b) (p ++ (d ∷ []))) (rest p d)) λ h. omega (arith, s .size, rest-length p d, stands-length (stands-true _ (rest p d) h), ap length e));
+        }
+
+    -- the longest that ends the letters is not all of them
+    pub left-kept : {short : ℕ} {again : Bool} → (length (longestSuffix (ruleOf b) (p ++ (d ∷ []))) ≡ k + 1 → ⊥) → ((n : ℕ) → lengthIn b q ≡ pos n → short ≡ cond (eqb n k) q (left .short))
+        → again ≡ (eqb x (left .row) || left .again) → Reaches b used atLeft (p ++ (d ∷ [])) (record { row = left .row; short = short; again = again })
+    unfolding longestAt
+    left-kept {short} {again} n f g =
+        let m : length (longestSuffix (ruleOf b) (p ++ (d ∷ []))) ≤ length p = omega (arith, n, s .size, suffix-length (longest-suffix (ruleOf b) (p ++ (d ∷ [])) .suffix), length-append p (d ∷ [])) in
+        let e = prefix-kept (ruleOf b) p d (inverse b) m in
+        let r = short-row (s .row-used) (s .row-holds ∙ ap spelt (ends-rest (ruleOf b) p d (inverse b) m)) f in
+        record {
+          row-used = l .row-used;
+          row-holds = l .row-holds ∙ ap spelt (sym e);
+          short-used = r .0;
+          short-holds = r .1;
+          again-is = rw e (g ∙ stands-rest);
+        }
+
+-- no palindrome ends the letters: the longest that stood is the empty word, which stands everywhere
+pub left-none : {b : Word} {used : ℕ → Bool} {p : Word} (d : ℕ) {left : Reach} → longestSuffix (ruleOf b) (p ++ (d ∷ [])) ≡ [] → Reaches b used atLeft p left → Reaches b used atLeft (p ++ (d ∷ [])) left
+unfolding longestAt
+left-none {b} {p} d e l =
+    record {
+      row-used = l .row-used;
+      row-holds = l .row-holds ∙ ap spelt (sym kept);
+      short-used = l .short-used;
+      short-holds = l .short-holds ∙ ap spelt (sym (short-none (ruleOf b) (inverse b) p d e));
+      again-is = rw kept (l .again-is ∙ same-test (stands w (removed atLeft p)) (stands w (rest p d)) there back);
+    }
+  where
+    w : Word
+    w = longestPrefix (ruleOf b) p
+
+    kept : longestPrefix (ruleOf b) (p ++ (d ∷ [])) ≡ w
+    kept = prefix-kept (ruleOf b) p d (inverse b) (omega (arith, ap length e))
+
+    empty : StoodIn (ruleOf b) p d (longestSuffix (ruleOf b) (p ++ (d ∷ [])))
+    empty = stood-old (ruleOf b) p d (rw e (stands-empty p))
+
+    there : stands w (removed atLeft p) ≡ true → stands w (rest p d) ≡ true
+    there h = stands-is w (rest p d) (again-back (ruleOf b) p d empty (inr (stands-true w (removed atLeft p) h)))
+
+    back : stands w (rest p d) ≡ true → stands w (removed atLeft p) ≡ true
+    back h =
+        let a = longest-at (ruleOf b) (inverse b) atLeft p in
+        stands-is w (removed atLeft p)
+        (⊎-elim
+        (λ f. subst (λ (v : Word). Stands v (removed atLeft p)) (sym e ∙ f) (stands-empty (removed atLeft p)))
+        (λ f. f)
+        (again-there (ruleOf b) p d empty (a .0) (a .1) (stands-true w (rest p d) h)))

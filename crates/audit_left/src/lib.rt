@@ -1,0 +1,64 @@
+// The left end of the letters as the tour reads on at the right: the longest palindrome that begins them, the longest that
+// begins them without the first, and whether the one stands in the other's letters. All three follow from the row of the
+// longest palindrome that ends the letters, so no letter is read a second time for the left end.
+ghost use mathlib.Core.Path.{_≡_};
+ghost use mathlib.Core.Bool.{cond, _||_};
+ghost use Prim.Native.Nat.{ℕ, _+_, _*_, _≤_, _<_};
+ghost use lib.Dec.{eqb};
+ghost use lib.IntN.{pos};
+ghost use lib.ListN.{length};
+ghost use Rattle.store.specs.Layout.{linkIn};
+ghost use Rattle.audit_left.specs.Left.{LeftAfter};
+use ends::Reach;
+use store::rows;
+
+// The row of the longest palindrome that begins k letters, if row `ends` holds the longest that ends them, which has the
+// given length: that one if it is all of them, and else the one that began them without the last.
+fn begins(size: i32, k: usize, ends: usize, before: usize) -> usize
+    requires { ⌜ k < 65536 ⌝ }
+    ensures { λ r. ⌜ ((n : ℕ) → size ≡ pos n → r ≡ cond (eqb n k) ends before) ⌝ }
+{
+    let all = k as i32;
+    if size == all {
+        return ends;
+    }
+    before
+}
+
+// Whether the palindrome of `row` stands again: it did before, or is the one that stood.
+fn stands_again(stood: usize, row: usize, again: bool) -> bool
+    ensures { λ r. ⌜ r ≡ (eqb stood row || again) ⌝ }
+{
+    if stood == row {
+        return true;
+    }
+    again
+}
+
+// The left end once k + 1 letters are read, of which row q holds the longest palindrome that ends them and `stood` the
+// longest of those that stood before the last letter. If q's is all letters it is new, and without the first letter they
+// are a palindrome exactly if its link has one letter less. Else what begins the letters is what began them, and it
+// stands again exactly if it did or is what stood.
+pub fn left_after(b: &[u8], k: usize, q: usize, stood: usize, left: Reach) -> Reach
+    requires { ⌜ (24 * q + 24 ≤ length (now b)) × (24 * linkIn (now b) q + 24 ≤ length (now b)) × (k < 65535) ⌝ }
+    ensures { λ r. ⌜ LeftAfter (now (b .entry)) k q stood left r ⌝ }
+{
+    let size = rows::length_of(b, q);
+    let all = (k + 1) as i32;
+    if size == all {
+        let link = rows::link_of(b, q);
+        let short = begins(rows::length_of(b, link), k, link, left.short);
+        return Reach {
+            row: q,
+            short,
+            again: false,
+        };
+    }
+    let short = begins(size, k, q, left.short);
+    let again = stands_again(stood, left.row, left.again);
+    Reach {
+        row: left.row,
+        short,
+        again,
+    }
+}

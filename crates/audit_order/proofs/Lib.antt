@@ -1,2 +1,0 @@
--- the ranks, from the order that is tested
-pub mod Ranks
