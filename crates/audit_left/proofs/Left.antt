@@ -1,5 +1,5 @@
 -- The left end with one letter more at the right. Where no palindrome ends the letters it stays (`left-none`). Else it is as the code of `left_after` says, by whether the longest that
--- ends the letters is all of them (`left-whole`) or not (`left-kept`). Rests on what begins letters (`Prefixes`), on what stood (`Stood`), and on the rows of the longest and of its link.
+-- ends the letters is all of them (`left-whole`) or not (`left-kept`). Rests on what begins letters (`Prefixes`), on what stands again (`Again`), and on the rows of the longest and of its link.
 use Prim.Native.Nat.{ℕ, _+_, _≤_}
 use native.Mathlib.Omega.{arith}
 use mathlib.Core.Path.{_≡_, refl, sym, ap, _∙_, subst}
@@ -27,27 +27,19 @@ use Rattle.store.specs.Layout.{readingIn, lengthIn, linkIn}
 use Rattle.store.specs.Good.{ruleOf, nodeIn}
 use Rattle.ends.specs.Reach.{Reaches}
 use Rattle.ends.specs.declared.Reach.{Reach}
-use Rattle.audit_left.specs.Left.{Stood, old, new, Reads}
+use Rattle.audit_left.specs.Left.{Reads}
 use Rattle.audit_left.proofs.Prefixes.{rest, rest-length, link-whole, ends-rest, prefix-kept, prefix-whole, short-all, short-kept, short-none}
-use Rattle.audit_left.proofs.Stood.{StoodIn, stood-old, stood-new, again-there, again-back}
+use Rattle.audit_left.proofs.Again.{again-there, again-back}
 
 -- the store's partner rule undoes itself
 inverse : (b : Word) → SelfInverse (ruleOf b)
 inverse b = rule-inverse (readingIn b)
 
-module _ {b : Word} {used : ℕ → Bool} {p : Word} {d k q x : ℕ} (s : Reads b used p d k q x) where
+module _ {b : Word} {used : ℕ → Bool} {p : Word} {d k q : ℕ} (s : Reads b used p d k q) where
   -- the length that row q stores
   pub size-is : lengthIn b q ≡ pos (length (longestSuffix (ruleOf b) (p ++ (d ∷ []))))
   unfolding lengthOf
   size-is = s .covers .length-is q (s .row-used) ∙ ap lengthOf (s .row-holds)
-
-  -- the row of the longest that stood
-  stood-row : Stood b p d q x → (w : Word) × (used x ≡ true) × (nodeIn b x ≡ spelt w) × StoodIn (ruleOf b) p d w
-  stood-row (old h e) = (longestSuffix (ruleOf b) (p ++ (d ∷ [])), subst (λ (r : ℕ). used r ≡ true) (sym e) (s .row-used), ap (nodeIn b) e ∙ s .row-holds, stood-old (ruleOf b) p d h)
-  stood-row (new n e) =
-      let i = s .covers .link-is q (s .row-used) in
-      let o = stood-new (ruleOf b) p d n in
-      (o .0, subst (λ (r : ℕ). used r ≡ true) (sym e) (i .0), ap (nodeIn b) e ∙ i .1 ∙ ap (linkOf (ruleOf b)) (s .row-holds) ∙ o .1, o .2)
 
   module _ {left : Reach} (l : Reaches b used atLeft p left) where
     -- the row of the longest that begins the letters but the first, from that of the longest that ends them
@@ -63,32 +55,29 @@ module _ {b : Word} {used : ℕ → Bool} {p : Word} {d k q x : ℕ} (s : Reads 
         go true t e = rw e (u, h ∙ ap spelt (sym (short-all (ruleOf b) p d (inverse b) (eqb-true size k t ∙ s .size))))
         go false t e = rw e (l .short-used, l .short-holds ∙ ap spelt (sym (short-kept (ruleOf b) p d (inverse b) λ i. eqb-false size k t (i ∙ sym (s .size)))))
 
-    -- what began the letters stands in them but the first exactly if it did, or its row is that of the longest that stood
-    stands-rest : (eqb x (left .row) || left .again) ≡ stands (longestPrefix (ruleOf b) p) (rest p d)
+    -- what began the letters stands in them but the first exactly if it did, or its row is that of the longest that ends them
+    stands-rest : length (longestSuffix (ruleOf b) (p ++ (d ∷ []))) ≤ length p → (eqb q (left .row) || left .again) ≡ stands (longestPrefix (ruleOf b) p) (rest p d)
     unfolding longestAt
-    stands-rest = same-test (eqb x (left .row) || left .again) (stands w (rest p d)) there back
+    stands-rest less = same-test (eqb q (left .row) || left .again) (stands w (rest p d)) there back
       where
         w : Word
         w = longestPrefix (ruleOf b) p
 
-        there : (eqb x (left .row) || left .again) ≡ true → stands w (rest p d) ≡ true
+        there : (eqb q (left .row) || left .again) ≡ true → stands w (rest p d) ≡ true
         there h =
-            let o = stood-row (s .stood) in
             stands-is w (rest p d)
-            (again-back (ruleOf b) p d (o .3)
+            (again-back (ruleOf b) (inverse b) p d less
             (⊎-elim
-            (λ e. let f : nodeIn b x ≡ nodeIn b (left .row) = ap (nodeIn b) (eqb-true x (left .row) e) in inl (cc (o .2, l .row-holds)))
+            (λ e. let f : nodeIn b q ≡ nodeIn b (left .row) = ap (nodeIn b) (eqb-true q (left .row) e) in inl (cc (s .row-holds, l .row-holds)))
             (λ e. inr (stands-true w (removed atLeft p) (sym (l .again-is) ∙ e)))
-            (either-true (eqb x (left .row)) (left .again) h)))
+            (either-true (eqb q (left .row)) (left .again) h)))
 
-        back : stands w (rest p d) ≡ true → (eqb x (left .row) || left .again) ≡ true
+        back : stands w (rest p d) ≡ true → (eqb q (left .row) || left .again) ≡ true
         back h =
-            let o = stood-row (s .stood) in
-            let a = longest-at (ruleOf b) (inverse b) atLeft p in
             ⊎-elim
-            (λ e. left-is (eqb x (left .row)) (left .again) (eq-eqb x (left .row) (s .covers .one-row x (left .row) (o .1) (l .row-used) (o .2 ∙ ap spelt e ∙ sym (l .row-holds)))))
-            (λ e. right-is (eqb x (left .row)) (left .again) (l .again-is ∙ stands-is w (removed atLeft p) e))
-            (again-there (ruleOf b) p d (o .3) (a .0) (a .1) (stands-true w (rest p d) h))
+            (λ e. left-is (eqb q (left .row)) (left .again) (eq-eqb q (left .row) (s .covers .one-row q (left .row) (s .row-used) (l .row-used) (s .row-holds ∙ ap spelt e ∙ sym (l .row-holds)))))
+            (λ e. right-is (eqb q (left .row)) (left .again) (l .again-is ∙ stands-is w (removed atLeft p) e))
+            (again-there (ruleOf b) (inverse b) p d less (longest-at (ruleOf b) (inverse b) atLeft p .0) (stands-true w (rest p d) h))
 
     -- the longest that ends the letters is all of them, and stands nowhere else
     pub left-whole : {short : ℕ} → length (longestSuffix (ruleOf b) (p ++ (d ∷ []))) ≡ k + 1 → ((n : ℕ) → lengthIn b (linkIn b q) ≡ pos n → short ≡ cond (eqb n k) (linkIn b q) (left .short))
@@ -110,7 +99,7 @@ module _ {b : Word} {used : ℕ → Bool} {p : Word} {d k q x : ℕ} (s : Reads 
 
     -- the longest that ends the letters is not all of them
     pub left-kept : {short : ℕ} {again : Bool} → (length (longestSuffix (ruleOf b) (p ++ (d ∷ []))) ≡ k + 1 → ⊥) → ((n : ℕ) → lengthIn b q ≡ pos n → short ≡ cond (eqb n k) q (left .short))
-        → again ≡ (eqb x (left .row) || left .again) → Reaches b used atLeft (p ++ (d ∷ [])) (record { row = left .row; short = short; again = again })
+        → again ≡ (eqb q (left .row) || left .again) → Reaches b used atLeft (p ++ (d ∷ [])) (record { row = left .row; short = short; again = again })
     unfolding longestAt
     left-kept {short} {again} n f g =
         let m : length (longestSuffix (ruleOf b) (p ++ (d ∷ []))) ≤ length p = omega (arith, n, s .size, suffix-length (longest-suffix (ruleOf b) (p ++ (d ∷ [])) .suffix), length-append p (d ∷ [])) in
@@ -121,10 +110,10 @@ module _ {b : Word} {used : ℕ → Bool} {p : Word} {d k q x : ℕ} (s : Reads 
           row-holds = l .row-holds ∙ ap spelt (sym e);
           short-used = r .0;
           short-holds = r .1;
-          again-is = rw e (g ∙ stands-rest);
+          again-is = rw e (g ∙ stands-rest m);
         }
 
--- no palindrome ends the letters: the longest that stood is the empty word, which stands everywhere
+-- no palindrome ends the letters: what began them stands in them but the first only if it did
 pub left-none : {b : Word} {used : ℕ → Bool} {p : Word} (d : ℕ) {left : Reach} → longestSuffix (ruleOf b) (p ++ (d ∷ [])) ≡ [] → Reaches b used atLeft p left → Reaches b used atLeft (p ++ (d ∷ [])) left
 unfolding longestAt
 left-none {b} {p} d e l =
@@ -139,20 +128,19 @@ left-none {b} {p} d e l =
     w : Word
     w = longestPrefix (ruleOf b) p
 
-    kept : longestPrefix (ruleOf b) (p ++ (d ∷ [])) ≡ w
-    kept = prefix-kept (ruleOf b) p d (inverse b) (omega (arith, ap length e))
+    less : length (longestSuffix (ruleOf b) (p ++ (d ∷ []))) ≤ length p
+    less = omega (arith, ap length e)
 
-    empty : StoodIn (ruleOf b) p d (longestSuffix (ruleOf b) (p ++ (d ∷ [])))
-    empty = stood-old (ruleOf b) p d (rw e (stands-empty p))
+    kept : longestPrefix (ruleOf b) (p ++ (d ∷ [])) ≡ w
+    kept = prefix-kept (ruleOf b) p d (inverse b) less
 
     there : stands w (removed atLeft p) ≡ true → stands w (rest p d) ≡ true
-    there h = stands-is w (rest p d) (again-back (ruleOf b) p d empty (inr (stands-true w (removed atLeft p) h)))
+    there h = stands-is w (rest p d) (again-back (ruleOf b) (inverse b) p d less (inr (stands-true w (removed atLeft p) h)))
 
     back : stands w (rest p d) ≡ true → stands w (removed atLeft p) ≡ true
     back h =
-        let a = longest-at (ruleOf b) (inverse b) atLeft p in
         stands-is w (removed atLeft p)
         (⊎-elim
         (λ f. subst (λ (v : Word). Stands v (removed atLeft p)) (sym e ∙ f) (stands-empty (removed atLeft p)))
         (λ f. f)
-        (again-there (ruleOf b) p d empty (a .0) (a .1) (stands-true w (rest p d) h)))
+        (again-there (ruleOf b) (inverse b) p d less (longest-at (ruleOf b) (inverse b) atLeft p .0) (stands-true w (rest p d) h)))

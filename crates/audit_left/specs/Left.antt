@@ -5,29 +5,21 @@ use mathlib.Core.Bool.{Bool, true}
 use mathlib.Core.List.{[], _∷_, _++_}
 use lib.ListN.{length}
 use Rattle.palindromes.specs.Word.{Word}
-use Rattle.palindromes.specs.Place.{Stands}
 use Rattle.palindromes.specs.Record.{longestSuffix}
 use Rattle.palindromes.specs.End.{atLeft}
 use Rattle.palindromes.specs.Node.{spelt}
 use Rattle.eertree.specs.Covers.{Covers, withUsed}
-use Rattle.store.specs.Layout.{linkIn}
 use Rattle.store.specs.Good.{ruleOf, tableIn, nodeIn}
 use Rattle.ends.specs.Reach.{Reaches}
 use Rattle.ends.specs.declared.Reach.{Reach}
 
--- row x holds the longest palindrome that ends p·d and stood in p already: that of row q, the longest of all that end p·d, or where that is new its link
-pub data Stood (b p : Word) (d q x : ℕ) : Type 0 where
-  old : Stands (longestSuffix (ruleOf b) (p ++ (d ∷ []))) p → x ≡ q → Stood b p d q x
-  new : (Stands (longestSuffix (ruleOf b) (p ++ (d ∷ []))) p → ⊥) → x ≡ linkIn b q → Stood b p d q x
-
 -- the letter d is read after the k letters of p: the used rows cover p·d, and row q holds the longest palindrome that ends it
-pub record Reads (b : Word) (used : ℕ → Bool) (p : Word) (d k q x : ℕ) : Type 0 where
+pub record Reads (b : Word) (used : ℕ → Bool) (p : Word) (d k q : ℕ) : Type 0 where
   pub size : k ≡ length p
   pub covers : Covers (ruleOf b) (p ++ (d ∷ [])) (withUsed used (tableIn b)) (nodeIn b)
   pub row-used : used q ≡ true
   pub row-holds : nodeIn b q ≡ spelt (longestSuffix (ruleOf b) (p ++ (d ∷ [])))
-  pub stood : Stood b p d q x
 
 -- the left end is known with the letter, if it was without it
-abbrev pub LeftAfter : Word → (k q x : ℕ) → (left after : Reach) → Type 0
-LeftAfter b k q x left after = (used : ℕ → Bool) (p : Word) (d : ℕ) → Reads b used p d k q x → Reaches b used atLeft p left → Reaches b used atLeft (p ++ (d ∷ [])) after
+abbrev pub LeftAfter : Word → (k q : ℕ) → (left after : Reach) → Type 0
+LeftAfter b k q left after = (used : ℕ → Bool) (p : Word) (d : ℕ) → Reads b used p d k q → Reaches b used atLeft p left → Reaches b used atLeft (p ++ (d ∷ [])) after

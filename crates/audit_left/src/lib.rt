@@ -25,23 +25,23 @@ fn begins(size: i32, k: usize, ends: usize, before: usize) -> usize
     before
 }
 
-// Whether the palindrome of `row` stands again: it did before, or is the one that stood.
-fn stands_again(stood: usize, row: usize, again: bool) -> bool
-    ensures { λ r. ⌜ r ≡ (eqb stood row || again) ⌝ }
+// Whether the palindrome of `row`, which begins the letters, stands in them again: it did before, or now ends them. Inside a
+// longer one that ends them it would have stood before, at that one's other end.
+fn stands_again(ends: usize, row: usize, again: bool) -> bool
+    ensures { λ r. ⌜ r ≡ (eqb ends row || again) ⌝ }
 {
-    if stood == row {
+    if ends == row {
         return true;
     }
     again
 }
 
-// The left end once k + 1 letters are read, of which row q holds the longest palindrome that ends them and `stood` the
-// longest of those that stood before the last letter. If q's is all letters it is new, and without the first letter they
-// are a palindrome exactly if its link has one letter less. Else what begins the letters is what began them, and it
-// stands again exactly if it did or is what stood.
-pub fn left_after(b: &[u8], k: usize, q: usize, stood: usize, left: Reach) -> Reach
+// The left end once k + 1 letters are read, of which row q holds the longest palindrome that ends them. If that is all of
+// them it is new, and without the first letter they are a palindrome exactly if its link has one letter less. Else what
+// begins the letters is what began them.
+pub fn left_after(b: &[u8], k: usize, q: usize, left: Reach) -> Reach
     requires { ⌜ (24 * q + 24 ≤ length (now b)) × (24 * linkIn (now b) q + 24 ≤ length (now b)) × (k < 65535) ⌝ }
-    ensures { λ r. ⌜ LeftAfter (now (b .entry)) k q stood left r ⌝ }
+    ensures { λ r. ⌜ LeftAfter (now (b .entry)) k q left r ⌝ }
 {
     let size = rows::length_of(b, q);
     let all = (k + 1) as i32;
@@ -55,7 +55,7 @@ pub fn left_after(b: &[u8], k: usize, q: usize, stood: usize, left: Reach) -> Re
         };
     }
     let short = begins(size, k, q, left.short);
-    let again = stands_again(stood, left.row, left.again);
+    let again = stands_again(q, left.row, left.again);
     Reach {
         row: left.row,
         short,

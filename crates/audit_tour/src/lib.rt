@@ -96,9 +96,8 @@ pub fn enter(
     if !points_back(b, u, d, q) {
         return Visit::Broken;
     }
-    let left = reach_at(tour, Side::Left);
     if marks[q] == 1 {
-        let known = left_after(b, k, q, q, left);
+        let known = left_after(b, k, q, reach_at(tour, Side::Left));
         return Visit::Next(arrive(tour, q, true, known, tour.met));
     }
     if !new_row_right(b, f, k, u, d, want, q) {
@@ -106,8 +105,7 @@ pub fn enter(
     }
     marks[q] = 1;
     count_row(b, carried, q);
-    let link = rows::link_of(b, q);
-    let new = left_after(b, k, q, link, left);
+    let new = left_after(b, k, q, reach_at(tour, Side::Left));
     Visit::Next(arrive(tour, q, false, new, tour.met + 1))
 }
 

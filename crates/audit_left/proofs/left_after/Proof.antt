@@ -1,4 +1,4 @@
--- `audit_left::left_after` tells by its length whether the longest palindrome that ends the letters is all of them, and goes by its link then, and else by what stood. Assumes nothing.
+-- `audit_left::left_after` tells by its length whether the longest palindrome that ends the letters is all of them, and goes by its link then, and else by its row. Assumes nothing.
 use borrow.Author.Needs.{needs}
 use mathlib.Core.Path.{sym, ap, _∙_}
 use mir.Syntax.{w32}

@@ -40,7 +40,7 @@ named c = holds _ (c .before .points-back .result) (c .before .points-back .ensu
 
 -- the first test, from behind the second and from behind the third
 abbrev back : tie.Else2 → tie.Else1
-back c = c .before .before .before
+back c = c .before .before
 
 abbrev back-of-new : tie.Else3 → tie.Else1
 back-of-new c = back (c .before .before)
@@ -57,26 +57,31 @@ returns c g =
     fails _ (c .before .points-back .result) (c .before .points-back .ensures) (c .if1 .taken) (good-back (p .1 .0) (p .1 .1) g (c .before .before .edge-of .ensures .0))
 
 slice-read-if2 : tie.Need-slice-read-if2
-slice-read-if2 c = mark-of (from-back (c .before .before) .pre .1 .0) (c .before .before .before .before .edge-of .result) (named (c .before .before))
+slice-read-if2 c = mark-of (from-back (c .before) .pre .1 .0) (c .before .before .before .edge-of .result) (named (c .before))
 
--- from behind the mark of a row met before: the first test
+-- from behind what is known of the left end, at a row met before: its mark, and the first test
+abbrev marked : tie.After-reach-at → tie.Then2
+marked c = c .before
+
 abbrev first-of : tie.Then2 → tie.Else1
-first-of c = c .before .before .before
+first-of c = c .before .before
 
 left-after-requires : tie.Need-left-after-requires
 left-after-requires c κs =
-    let first = first-of c in
+    let first = first-of (marked c) in
+    let q = first .before .before .edge-of .result in
     let p = from-back first .pre .1 in
-    (row-fits (p .0 .ready .sized) (first .before .before .edge-of .result) (named first .high), old-link (p .0) (p .1) (first .before .before .edge-of .result) (c .if2 .taken), omega (arith, k-small (p .0)))
+    (row-fits (p .0 .ready .sized) q (named first .high), old-link (p .0) (p .1) q (marked c .if2 .taken), omega (arith, k-small (p .0)))
 
 returns-2 : tie.Need-returns-2
 returns-2 c =
-    let t = c .before .before in
+    let left = c .before in
+    let t = marked (left .before) in
     let first = first-of t in
     let s = from-back first in
     let q = first .before .before .edge-of .result in
     tour-old (s .pre .1 .0) (s .pre .1 .1) (named first) (t .if2 .taken)
-    (subst (λ (x : Reach). LeftAfter (s .args .b .now) (s .args .k) q q x (c .before .left-after .result)) (t .before .before .reach-at .ensures) (c .before .left-after .ensures)) (c .arrive .ensures)
+    (subst (λ (x : Reach). LeftAfter (s .args .b .now) (s .args .k) q x (left .left-after .result)) (left .before .reach-at .ensures) (left .left-after .ensures)) (c .arrive .ensures)
 
 new-row-right-requires : tie.Need-new-row-right-requires
 new-row-right-requires c κs =
@@ -85,7 +90,7 @@ new-row-right-requires c κs =
 
 returns-3 : tie.Need-returns-3
 returns-3 c g =
-    let first = c .before .before .before .before .before in
+    let first = back (c .before .before) in
     let s = from-back first in
     let a = s .args in
     let q = first .before .before .edge-of in
@@ -112,7 +117,7 @@ count-row-requires c κs =
     new-countable (p .1 .0) (p .1 .1) (named first) (right (c .before))
 
 -- behind the counting of the row: the third test
-abbrev third-of : tie.After-link-of → tie.Else3
+abbrev third-of : tie.After-reach-at2 → tie.Else3
 third-of c = c .before .before .before .before .before
 
 left-after-requires-2 : tie.Need-left-after-requires-2
@@ -124,16 +129,15 @@ left-after-requires-2 c κs =
 
 returns-4 : tie.Need-returns-4
 returns-4 c =
-    let known = c .before .before in
-    let link = known .before in
-    let counted = link .before .before .before in
-    let third = third-of link in
+    let left = c .before .before in
+    let counted = left .before .before .before .before in
+    let third = third-of (left .before) in
     let second = third .before .before in
     let first = back second in
     let s = from-back first in
     let q = first .before .before .edge-of in
-    tour-new (s .pre .1 .0) (s .pre .1 .1) (named first) (q .ensures .0) (second .if2 .left) (right third) (link .link-of .ensures .0)
-    (subst (λ (x : Reach). LeftAfter (s .args .b .now) (s .args .k) (q .result) (link .link-of .result) x (known .left-after2 .result)) (second .before .before .reach-at .ensures) (known .left-after2 .ensures))
+    tour-new (s .pre .1 .0) (s .pre .1 .1) (named first) (q .ensures .0) (second .if2 .left) (right third)
+    (subst (λ (x : Reach). LeftAfter (s .args .b .now) (s .args .k) (q .result) x (left .left-after2 .result)) (left .before .reach-at2 .ensures) (left .left-after2 .ensures))
     (c .arrive2 .ensures) (counted .count-row .kept .1 .0) (counted .count-row .ensures)
 
 pub enter-spec : {M : Type 1} → statement M
@@ -143,8 +147,8 @@ enter-spec =
     edge-of-requires
     (λ c κs. c .before .before .before .before .pre .1 .0 .ready .sized)
     returns
-    (λ c κs. search needs)
     slice-read-if2
+    (λ c κs. search needs)
     left-after-requires
     (λ c κs. search needs)
     returns-2
@@ -152,7 +156,7 @@ enter-spec =
     returns-3
     slice-write-marks
     count-row-requires
-    (λ c κs. let first = back-of-new (c .before .before .before .before) in row-fits (from-back first .pre .1 .0 .ready .sized) (first .before .before .edge-of .result) (named first .high))
+    (λ c κs. search needs)
     left-after-requires-2
     (λ c. omega (arith, met-small (from-back (back-of-new (third-of (c .before .before))) .pre .1 .0)))
     (λ c κs. search needs)
