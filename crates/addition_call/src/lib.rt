@@ -7,9 +7,9 @@ ghost use Rattle.palindromes.specs.Refusal.{add};
 ghost use Rattle.store.specs.Side.{endOf};
 ghost use Rattle.outcome.specs.Promise.{nothing, Promise, FreeRow};
 ghost use Rattle.outcome.specs.Verdict.{Verdict};
+use filling::fill;
 use outcome::answers;
 use outcome::refuse;
-use partners::partner;
 use store::header;
 use store::letters::Side;
 
@@ -54,9 +54,8 @@ fn add_letter(store: &mut [u8], side: Side, letter: u64) -> u64
     if number != 0 {
         return refuse(number);
     }
-    let c = letter as u8;
-    let p = partner(header::reading(store), c);
-    answers::answer_added(addition::add(store, side, c, p))
+    let letters = [letter as u8];
+    answers::answer_added(fill(store, side, &letters))
 }
 
 // Adds a letter at the left end.

@@ -6,6 +6,7 @@ use lib.Dec.{leb}
 use lib.ListN.{length}
 use borrow.Author.Tests.{le-leb, lt-leb}
 use Rattle.palindromes.specs.Word.{Word, allLetters}
+use Rattle.palindromes.specs.End.{atRight}
 use Rattle.transitions.specs.Opening.{opened}
 use Rattle.transitions.specs.Turning.{afterAdditions}
 use Rattle.bench_fill.specs.Fills.{fillable, Fills}
@@ -28,6 +29,6 @@ module _ (b w : Word) where
   no-letter h = nothing-done (rw (h, and-false (leb 49408 (length b) && leb (length w) 1024)))
 
   -- and the letters stand where it can
-  pub all-added : {r : ℕ} {b′ : Word} → 49408 ≤ length b → length w ≤ 1024 → allLetters w ≡ true → r ≡ length w → b′ ≡ afterAdditions w (opened 0 1024 b) → Fills b w r b′
+  pub all-added : {r : ℕ} {b′ : Word} → 49408 ≤ length b → length w ≤ 1024 → allLetters w ≡ true → r ≡ length w → b′ ≡ afterAdditions atRight w (opened 0 1024 b) → Fills b w r b′
   unfolding fillable
   all-added h m a e f = record { filled = λ t. (e, f); left = λ z. absurd (true≢false (sym (rw (le-leb 49408 (length b) h, le-leb (length w) 1024 m, a) refl) ∙ z)) }

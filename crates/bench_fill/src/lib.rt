@@ -4,6 +4,7 @@ ghost use Rattle.bench_fill.specs.Fills.{Fills};
 use alphabet::all_letters;
 use filling::fill;
 use opening::Reading;
+use store::letters::Side;
 
 // Fills a record, and answers how many letters it was given; 0 where it has no room or a byte is no
 // letter, and the store then stays.
@@ -21,6 +22,6 @@ pub extern "C" fn bench_fill(store: &mut [u8], letters: &[u8]) -> u64
         return 0;
     }
     opening::open(store, Reading::Plain, 1024);
-    fill(store, letters);
+    fill(store, Side::Right, letters);
     letters.len() as u64
 }

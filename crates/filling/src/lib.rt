@@ -1,5 +1,7 @@
-// Letters added at the right of a good store, one after the other. Nobody else has the store between two
-// letters, so it is not tested again at each.
+// Letters added at a side of a good store, one after the other. Nobody else has the store between two
+// letters, so it is not tested again at each. Every addition goes through this one loop, that of a single
+// letter too: so the compiler puts the addition into the loop, and a letter costs no call.
+use outcome::answers::Added;
 use partners::partner_in;
 use partners::table;
 use store::header;
@@ -11,20 +13,25 @@ ghost use lib.ListN.{length};
 ghost use Rattle.palindromes.specs.Word.{allLetters};
 ghost use Rattle.store.specs.Good.{Good};
 ghost use Rattle.store.specs.Layout.{capacityIn, sizeIn};
+ghost use Rattle.store.specs.Side.{endOf};
 ghost use Rattle.transitions.specs.Turning.{afterAdditions};
+ghost use Rattle.filling.specs.Last.{LastBrings};
 
-// Adds letters at the right of a record that has room for them. Their partners come from a table that is
-// made once, since the constant is copied wherever it is looked into.
-pub fn fill(store: &mut [u8], letters: &[u8])
+// Adds letters at a side of a record that has room for them, and answers what the last of them brings. Their
+// partners come from a table that is made once, since the constant is copied wherever it is looked into.
+pub fn fill(store: &mut [u8], side: Side, letters: &[u8]) -> Added
     requires { ⌜ Good (now store) ⌝ }
     requires { ⌜ (allLetters (now letters) ≡ true) × (sizeIn (now store) + length (now letters) ≤ capacityIn (now store)) ⌝ }
-    ensures { λ _. ⌜ now (store .exit) ≡ afterAdditions (now (letters .entry)) (now (store .entry)) ⌝ }
+    ensures store { λ _. ⌜ now (store .exit) ≡ afterAdditions (endOf side) (now (letters .entry)) (now (store .entry)) ⌝ }
+    ensures last { λ a. ⌜ LastBrings (endOf side) (now (letters .entry)) (now (store .entry)) a ⌝ }
 {
     let partners = table(header::reading(store));
+    let mut last = Added::Known;
     let mut i = 0;
     while i < letters.len() {
         let c = letters[i];
-        addition::add(store, Side::Right, c, partner_in(&partners, c));
+        last = addition::add(store, side, c, partner_in(&partners, c));
         i += 1;
     }
+    last
 }

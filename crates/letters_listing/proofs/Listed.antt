@@ -11,6 +11,7 @@ use Rattle.palindromes.specs.Reading.{asPlain, readingNumber, ruleIn}
 use Rattle.palindromes.specs.Bed.{isIdentifier, listing}
 use Rattle.palindromes.specs.Refusal.{storeSize}
 use Rattle.palindromes.proofs.Readings.{rule-of-plain}
+use Rattle.palindromes.specs.End.{atRight}
 use Rattle.store.specs.Layout.{sizeIn, lettersIn}
 use Rattle.store.specs.Good.{ruleOf}
 use Rattle.store.proofs.Sizes.{letters-length}
@@ -20,7 +21,7 @@ use Rattle.transitions.specs.Turning.{afterAdditions}
 use Rattle.transitions.proofs.Turned.{Made, made}
 
 -- a store that is opened for a plain record with room for 1,024 letters, and takes these
-pub record-of : (b w : Word) → 49408 ≤ length b → allLetters w ≡ true → length w ≤ 1024 → {b₁ b₂ : Word} → b₁ ≡ opened (readingNumber asPlain) 1024 b → b₂ ≡ afterAdditions w b₁ → Made 0 1024 w b b₂
+pub record-of : (b w : Word) → 49408 ≤ length b → allLetters w ≡ true → length w ≤ 1024 → {b₁ b₂ : Word} → b₁ ≡ opened (readingNumber asPlain) 1024 b → b₂ ≡ afterAdditions atRight w b₁ → Made 0 1024 w b b₂
 unfolding readingNumber storeSize
 record-of b w long all few e f = rw (f, e) (made 0 1024 b (omega arith) (omega arith) (omega arith) long w all few)
 

@@ -1,6 +1,7 @@
 // The list of the record that letters make. The store is made here and lent to nobody.
 use filling::fill;
 use opening::Reading;
+use store::letters::Side;
 ghost use mathlib.Core.Path.{_≡_};
 ghost use mathlib.Core.Bool.{true};
 ghost use Prim.Native.Nat.{_≤_};
@@ -30,6 +31,6 @@ pub fn list_letters(name: &[u8], letters: &[u8], out: &mut [u8]) -> usize
     let mut store = blank();
     let mut scratch = [0u8; 4096];
     opening::open(&mut store, Reading::Plain, 1024);
-    fill(&mut store, letters);
+    fill(&mut store, Side::Right, letters);
     listing::list(&store, name, &mut scratch, out)
 }

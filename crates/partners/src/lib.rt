@@ -2,7 +2,6 @@
 // in either reading.
 ghost use mathlib.Core.Path.{_≡_};
 ghost use lib.ListN.{getD};
-ghost use Rattle.palindromes.specs.Reading.{complement, ruleIn};
 ghost use Rattle.partners.specs.Table.{PartnersIn};
 
 // The partner of each byte in an inverted record: A with T, C with G, and every other byte itself.
@@ -265,24 +264,7 @@ const PARTNERS: [u8; 256] = [
     255,
 ];
 
-// The partner of a byte in an inverted record.
-fn entry(c: u8) -> u8
-    ensures { λ r. ⌜ r ≡ complement c ⌝ }
-{
-    PARTNERS[c as usize]
-}
-
-// The partner of a byte in a reading, for what is asked a few times a call.
-pub fn partner(reading: usize, c: u8) -> u8
-    ensures { λ r. ⌜ r ≡ ruleIn reading c ⌝ }
-{
-    if reading == 1 {
-        return entry(c);
-    }
-    c
-}
-
-// The partners of all bytes in a reading, for what is asked at each letter. Whoever reads letters makes
+// The partners of all bytes in a reading. Whoever reads or adds letters makes
 // the table once and lends it: the constant is copied to the stack wherever it is looked up.
 pub fn table(reading: usize) -> [u8; 256]
     ensures { λ r. ⌜ PartnersIn reading r ⌝ }

@@ -99,7 +99,7 @@ module _ {b : Word} (g : Good b) (r : InOrder b) where
 
 -- ---- all letters
 
-letters-in-order : (w : Word) {b : Word} → Good b → InOrder b → allLetters w ≡ true → sizeIn b + length w ≤ capacityIn b → InOrder (afterAdditions w b)
+letters-in-order : (w : Word) {b : Word} → Good b → InOrder b → allLetters w ≡ true → sizeIn b + length w ≤ capacityIn b → InOrder (afterAdditions atRight w b)
 unfolding afterAdditions allLetters
 letters-in-order [] g r all room = r
 letters-in-order (c ∷ w) {b} g r all room =

@@ -9,6 +9,7 @@ use lib.ListN.{length, take, drop, set, getD, length-drop}
 use lib.Seq.{take-suc, take-suc-set, getD-drop}
 use Rattle.palindromes.specs.Word.{Word, allLetters}
 use Rattle.palindromes.specs.Refusal.{storeSize}
+use Rattle.palindromes.specs.End.{atRight}
 use Rattle.store.specs.Layout.{capacityIn, sizeIn, lettersIn}
 use Rattle.store.specs.Good.{Good}
 use Rattle.walk.proofs.Stores.{store-long}
@@ -48,5 +49,5 @@ module _ {b : Word} (g : Good b) {k n : ℕ} (capacity : k ≡ capacityIn b) (si
         rw (e, letters-aside) (h .0, g .letters, h .1)
 
     -- and make it what the record of these letters is in that reading
-    pub joined : (m : ℕ) {b′ b″ : Word} → b′ ≡ opened m k b → b″ ≡ afterAdditions (take n l) b′ → b″ ≡ afterAdditions (lettersIn b) (opened m (capacityIn b) b)
-    joined m e f = f ∙ ap₂ afterAdditions letters-aside (e ∙ ap (λ (j : ℕ). opened m j b) capacity)
+    pub joined : (m : ℕ) {b′ b″ : Word} → b′ ≡ opened m k b → b″ ≡ afterAdditions atRight (take n l) b′ → b″ ≡ afterAdditions atRight (lettersIn b) (opened m (capacityIn b) b)
+    joined m e f = f ∙ ap₂ (afterAdditions atRight) letters-aside (e ∙ ap (λ (j : ℕ). opened m j b) capacity)

@@ -5,9 +5,11 @@ use opening::Reading;
 use opening::open;
 use opening::reading_number;
 use store::header;
+use store::letters::Side;
 ghost use mathlib.Core.Path.{_≡_};
 ghost use Prim.Native.Nat.{_+_, _≤_};
 ghost use lib.ListN.{length, take, drop};
+ghost use Rattle.palindromes.specs.End.{atRight};
 ghost use Rattle.palindromes.specs.Reading.{readingNumber};
 ghost use Rattle.store.specs.Good.{Good};
 ghost use Rattle.store.specs.Layout.{capacityIn, lettersIn};
@@ -32,13 +34,13 @@ fn letters_at(b: &[u8], base: usize, n: usize) -> [u8; 1024]
 // Makes the record anew in a reading: the letters join an empty one of the same capacity.
 fn remake(b: &mut [u8], reading: Reading)
     requires { ⌜ Good (now b) ⌝ }
-    ensures { λ _. ⌜ now (b .exit) ≡ afterAdditions (lettersIn (now (b .entry))) (opened (readingNumber (wayOf reading)) (capacityIn (now (b .entry))) (now (b .entry))) ⌝ }
+    ensures { λ _. ⌜ now (b .exit) ≡ afterAdditions atRight (lettersIn (now (b .entry))) (opened (readingNumber (wayOf reading)) (capacityIn (now (b .entry))) (now (b .entry))) ⌝ }
 {
     let capacity = header::capacity(b);
     let n = header::size(b);
     let letters = letters_at(b, 24 * (capacity + 2), n);
     open(b, reading, capacity);
-    fill(b, &letters[..n]);
+    fill(b, Side::Right, &letters[..n]);
 }
 
 // Turns the record to a reading. To the reading in force nothing is written.

@@ -5,6 +5,7 @@ use borrow.Author.Tests.{not-true, not-false}
 use mathlib.Core.Path.{refl, sym, ap, _∙_}
 use Rattle.palindromes.specs.Reading.{readingNumber}
 use Rattle.palindromes.specs.Refusal.{storeSize}
+use Rattle.palindromes.specs.End.{atRight}
 use Rattle.transitions.specs.Turning.{afterAdditions}
 use Rattle.filling.proofs.Filling.{takes}
 use Rattle.bench_fill.proofs.Filling.{store-short, too-many, no-letter, all-added}
@@ -37,7 +38,7 @@ returns-4 : tie.Need-returns-4
 unfolding readingNumber
 returns-4 c =
     let t = c .before .before .before .before .before .before .before .before in
-    all-added _ _ (t .before .before .before .if1 .left) (t .before .before .if2 .left) (sym (t .before .all-letters .ensures) ∙ not-false _ (t .if3 .left)) refl (c .before .before .fill .ensures ∙ ap (afterAdditions _) (c .before .before .before .before .before .before .«open» .ensures))
+    all-added _ _ (t .before .before .before .if1 .left) (t .before .before .if2 .left) (sym (t .before .all-letters .ensures) ∙ not-false _ (t .if3 .left)) refl (c .before .before .fill .ensures .0 ∙ ap (afterAdditions atRight _) (c .before .before .before .before .before .before .«open» .ensures))
 
 pub bench-fill-spec : {M : Type 1} → statement M
 bench-fill-spec = tie.close (tie.spec returns returns-2 (λ c κs. search needs) returns-3 open-requires fill-requires (λ c. search needs) returns-4)

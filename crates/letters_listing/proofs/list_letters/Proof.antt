@@ -27,7 +27,7 @@ filled : (c : tie.After-fill) → Made 0 1024 (entry (at-blank (at-open c)) .arg
 filled c =
     let o = at-open c in
     let p = entry (at-blank o) .pre .1 .0 in
-    record-of _ _ (omega (arith, at-blank o .blank .ensures)) (p .0) (p .1) (o .«open» .ensures) (c .fill .ensures)
+    record-of _ _ (omega (arith, at-blank o .blank .ensures)) (p .0) (p .1) (o .«open» .ensures) (c .fill .ensures .0)
 
 open-requires : tie.Need-open-requires
 unfolding storeSize

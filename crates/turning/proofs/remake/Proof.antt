@@ -67,7 +67,7 @@ returns c =
     let l = at-letters o in
     let n = at-size l in
     let k = at-capacity n in
-    joined (entry k .pre) (k .capacity .ensures .0) (n .size .ensures .0) (l .letters-at .result) (l .letters-at .ensures .1) _ (o .«open» .ensures) (f .fill .ensures)
+    joined (entry k .pre) (k .capacity .ensures .0) (n .size .ensures .0) (l .letters-at .result) (l .letters-at .ensures .1) _ (o .«open» .ensures) (f .fill .ensures .0)
 
 pub remake-spec : {M : Type 1} → statement M
 remake-spec =
