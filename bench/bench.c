@@ -1,10 +1,11 @@
 /* The benchmark: the library beside its C twin, in one run, on five words and four sizes in either reading, inverted
- * records beside plain ones, and turns and the longest length beside length.
+ * records beside plain ones, turns and the longest length beside length, and removals and the longest at an end beside
+ * additions.
  *
  * Prints ratios, library over twin, since times of one machine say little; a ratio above the limit is marked with !.
  * The argument names the file that gets the drawing of growth. Ends with 1 if a tested call at 1,000 letters, a fill or
- * reading FASTA is above its limit, or if at 1,000 letters an inverted record beside a plain one, or a turn or the longest
- * length beside length, takes longer than it may. */
+ * reading FASTA is above its limit, or if at 1,000 letters an inverted record beside a plain one, a turn or the longest
+ * length beside length, or a removal or the longest at an end beside an addition, takes longer than it may. */
 #include <math.h>
 
 #include "calls.h"
@@ -125,6 +126,26 @@ static int tested_records(size_t n)
     return above;
 }
 
+/* How many of the ratios at the size that was measured last are above what is aimed at, and the largest of all. */
+static void against_aim(void)
+{
+    int count = 0, above = 0, of = 0, on = 0;
+    double most = 0;
+    for (int c = 0; c < CALLS; c++)
+        for (int i = 0; i < 2 * BOTH_WORDS; i++) {
+            int word = i / 2, reading = i % 2;
+            if (!timed(c, word, reading))
+                continue;
+            double ratio = least[c][reading][word].library / least[c][reading][word].twin;
+            count++;
+            above += ratio > RATIO_AIM;
+            if (ratio > most)
+                most = ratio, of = c, on = i;
+        }
+    printf("\nOf %d ratios of a tested call to its twin %d are above %.1f; the largest is %.2f (%s, %s %s)\n", count, above, RATIO_AIM,
+           most, calls[of].name, reading_names[on % 2], word_names[on / 2]);
+}
+
 static unsigned rows_of(int word)
 {
     static struct sitting s;
@@ -184,6 +205,24 @@ static int longest_length_beside_length(void)
             ratio[w] = time_ratio(questions, reading * WORDS + w, reading, LARGEST);
         heading(reading == PLAIN ? "1000 letters, plain" : "1000 letters, inverted", reading);
         above += ratios(calls[CALL_LONGEST_LENGTH].name, LONGEST_LENGTH_LIMIT, 3, ratio);
+    }
+    return above;
+}
+
+/* A removal and the longest at an end beside an addition there, on every word in its reading: each is the test and little more.
+ * How many ratios of the library are above the limit. The times are those that measure_calls met last. */
+static int ends_beside_addition(void)
+{
+    static const int beside[][2] = {{CALL_REMOVE_LEFT, CALL_ADD_LEFT}, {CALL_REMOVE_RIGHT, CALL_ADD_RIGHT},
+                                    {CALL_LONGEST_LEFT, CALL_ADD_LEFT}, {CALL_LONGEST_RIGHT, CALL_ADD_RIGHT}};
+    int above = 0;
+    printf("\nA removal and the longest at an end beside an addition there, each one reading of the letters: time of the one over "
+           "that of the other, in the library and in the twin; ! where above %.1f\n", END_LIMIT);
+    for (int reading = PLAIN; reading <= INVERTED; reading++) {
+        heading(reading == PLAIN ? "1000 letters, plain" : "1000 letters, inverted", reading);
+        for (int i = 0; i < 4; i++)
+            above += against(calls[beside[i][0]].name, END_LIMIT, &least[beside[i][0]][reading][reading * WORDS],
+                             &least[beside[i][1]][reading][reading * WORDS]);
     }
     return above;
 }
@@ -300,8 +339,10 @@ int main(int count, char **arguments)
         for (int w = 0; w < WORDS; w++)
             test[i][w] = least[TEST_ALONE][PLAIN][w].library;
     }
+    against_aim();
     above += inverted_beside_plain();
     above += longest_length_beside_length();
+    above += ends_beside_addition();
     against_floor(test);
     against_surfaces();
     above += without_a_test();

@@ -28,7 +28,6 @@ static inline struct view view_of(const uint8_t *b, enum side side)
 }
 
 static inline uint8_t raw(struct view v, size_t i) { return v.first[v.step * (ptrdiff_t)i]; }
-static inline uint8_t seen(struct view v, size_t i) { return v.seen_as[raw(v, i)]; }
 
 /* The first row from `row` on along the links whose palindrome, ending the first k letters, has d's partner just before
  * it, and the imaginary one where none has. */

@@ -1,8 +1,8 @@
 /* Whether the twin does the library's work: a benchmark of two programs that answer differently is worthless.
  *
- * Every call on every word in either reading, long random sittings from both ends, some with turns, and damaged stores, in
- * some of which a carried number alone is untrue, go through both, and every answer and every lent byte must agree. Prints
- * how many calls were compared, and ends with 1 at the first difference. */
+ * Every call on every word in either reading, long random sittings from both ends, some with turns, full records of every
+ * word taken away letter by letter, and damaged stores, in some of which a carried number alone is untrue, go through both, and
+ * every answer and every lent byte must agree. Prints how many calls were compared, and ends with 1 at the first difference. */
 #include <stdio.h>
 #include <stdlib.h>
 #include <string.h>
@@ -43,11 +43,21 @@ static void compare_turns(const char *where)
         compare(&calls[CALL_TURN_PLAIN + reading], where);
 }
 
-/* On a store that may be damaged: two questions, which show whether it is refused, and the turns. */
+/* The longest at either end. */
+static void compare_ends(const char *where)
+{
+    compare(&calls[CALL_LONGEST_LEFT], where);
+    compare(&calls[CALL_LONGEST_RIGHT], where);
+}
+
+/* On a store that may be damaged: questions, which show whether it is refused, then removals and the turns. */
 static void compare_damaged(const char *where)
 {
     refused += compare(&calls[CALL_LENGTH], where) == 3;
     compare(&calls[CALL_LONGEST_LENGTH], where);
+    compare_ends(where);
+    compare(&calls[CALL_REMOVE_LEFT], where);
+    compare(&calls[CALL_REMOVE_RIGHT], where);
     compare_turns(where);
 }
 
@@ -143,6 +153,17 @@ static void sitting(uint32_t seed, enum reading reading, size_t capacity, const 
     }
 }
 
+/* A full record of a word taken away at either end by chance, with both ends asked at every letter. */
+static void taken_away(uint32_t seed, int word, enum reading reading)
+{
+    seat(&here, word, reading, CAPACITY_MOST, CAPACITY_MOST);
+    there = here;
+    while (size_of(here.store) > 0) {
+        compare_ends(word_names[word]);
+        compare(&calls[CALL_REMOVE_LEFT + (int)(next_random(&seed) >> 31)], word_names[word]);
+    }
+}
+
 /* Good stores with a few cells or letters changed: both must take or refuse them alike. */
 static void damage(uint32_t seed, int word, size_t n, size_t capacity, int tries)
 {
@@ -204,10 +225,28 @@ static void carried(int word, size_t n, size_t capacity)
     compare_all(&s, "numbers in the free cells");
 }
 
+/* Each row in turn with a rank that is none, and named where its place would lie: behind all that a store of 12 letters uses. */
+static void past_the_places(int word)
+{
+    static struct sitting s;
+    enum { CAPACITY = 12 };
+    seat(&s, word, word_reading(word), 9, CAPACITY);
+    for (unsigned row = 2; row < CAPACITY + 2; row++)
+        for (unsigned rank = CAPACITY; rank < CAPACITY + 3; rank++) {
+            here = s;
+            put(here.store, row, RANK, rank);
+            put(here.store, rank + 2, ORDER, row);
+            there = here;
+            compare_damaged("a rank past the places");
+        }
+}
+
 int main(void)
 {
     for (int reading = PLAIN; reading <= INVERTED; reading++) {
         on_words(reading);
+        for (int word = 0; word < ALL_WORDS; word++)
+            taken_away((uint32_t)word + 1, word, reading);
         sitting(7, reading, 40, reading == PLAIN ? "AC" : "AT", false);
         sitting(8, reading, 300, "ACGT", false);
         sitting(9, reading, 9, reading == PLAIN ? "ACG" : "ATC", false);
@@ -221,6 +260,7 @@ int main(void)
         carried(word, 0, 3);
         carried(word, 9, 12);
         carried(word, 60, 64);
+        past_the_places(word);
     }
     printf("bench/same: %lu calls gave equal answers and equal bytes, %lu damaged stores refused by both\n", compared,
            refused);

@@ -1,6 +1,6 @@
 /* A double-ended eertree by surface recording, as the source paper gives it: additions and removals at either end in
  * constant time for four letters, with no test of anything. It is no twin: it keeps other data, works in memory of its
- * own, and shows what the lent store, its test and the replay of removals cost beside the best known method. */
+ * own, and shows what the lent store and its test, which reads every letter, cost beside the best known method. */
 #ifndef BENCH_SURFACE_H
 #define BENCH_SURFACE_H
 

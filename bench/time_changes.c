@@ -18,6 +18,7 @@ struct lap {
 };
 
 static uint8_t store[STORE_MOST];
+static struct reach known[RUN]; /* of the right end, after each letter of a run */
 static struct surfaces surfaces;
 static volatile uint64_t sink;
 
@@ -32,14 +33,26 @@ static struct lap tested(const uint8_t *more)
     return (struct lap){between - from, now_ns() - between};
 }
 
+/* A removal is told what is known of its end, which a test would have read. Right after an addition the addition says it: the
+ * end is as before, and the longest there stood already unless it came in. */
+static void learn(const uint8_t *more)
+{
+    for (int i = 0; i < RUN; i++) {
+        known[i].shorter = end_row(store, RIGHT);
+        known[i].again = bare_add(store, RIGHT, more[i]) == 0;
+    }
+    for (int i = RUN; i-- > 0;)
+        bare_remove(store, RIGHT, known[i]);
+}
+
 static struct lap twin(const uint8_t *more)
 {
     int64_t from = now_ns();
     for (int i = 0; i < RUN; i++)
         sink = bare_add(store, RIGHT, more[i]);
     int64_t between = now_ns();
-    for (int i = 0; i < RUN; i++)
-        sink = bare_remove(store, RIGHT);
+    for (int i = RUN; i-- > 0;)
+        sink = bare_remove(store, RIGHT, known[i]);
     return (struct lap){between - from, now_ns() - between};
 }
 
@@ -69,6 +82,7 @@ void time_changes(int word, size_t n, int samples, struct ways *add, struct ways
     struct lap a = {INT64_MAX, INT64_MAX}, b = a, c = a;
     make_word(word, letters, n + RUN);
     twin_fill(store, sizeof store, letters, n);
+    learn(letters + n);
     surfaces_open(&surfaces);
     for (size_t i = 0; i < n; i++)
         surfaces_add(&surfaces, RIGHT, letters[i]);

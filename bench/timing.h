@@ -12,13 +12,16 @@ struct pair {
 };
 
 /* The ratio that a tested call may reach at 1,000 letters, the one for reading FASTA, the one of a call on an inverted record
- * to the same call on a plain one with as many letters and rows, the one of a turn to length on the same record, and the one
- * of the longest length to length, each of which is the test and one read. */
+ * to the same call on a plain one with as many letters and rows, the one of a turn to length on the same record, the one of the
+ * longest length to length, each of which is the test and one read, and the one of a removal or the longest at an end to an
+ * addition there, since each reads the letters once. How many ratios to the twin are above the aim is told, and no failure. */
 #define RATIO_LIMIT 1.5
+#define RATIO_AIM 1.1
 #define FASTA_LIMIT 1.2
 #define READING_LIMIT 1.2
 #define TURN_LIMIT 3.0
 #define LONGEST_LENGTH_LIMIT 1.02
+#define END_LIMIT 1.2
 
 /* One call on n letters of a word in a reading, 0 or 1; the smallest of many samples, library and twin one after the other. */
 struct pair time_call(int call, int word, int reading, size_t n, int samples);
@@ -31,8 +34,8 @@ struct pair time_ratio(const int questions[2], int word, int reading, size_t n);
 /* One pass that reads the bytes that a store of this capacity uses. */
 double time_floor(size_t capacity, int samples);
 
-/* Changes in a row at n letters by the library's tested call, the twin with no test, and surface recording;
- * microseconds for one change. */
+/* Changes in a row at n letters by the library's tested call, the twin with no test, whose removals are told what a test reads,
+ * and surface recording; microseconds for one change. */
 struct ways {
     double tested, untested, surface;
 };

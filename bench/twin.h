@@ -11,7 +11,16 @@
 
 #include "cells.h"
 
+/* What is known of an end once the letters are read: the row of the longest palindrome there without the end's own letter, and
+ * whether the longest there stands without that letter too. A removal and a question about the end need no more. */
+struct reach {
+    unsigned shorter;
+    bool again;
+};
+
 bool twin_is_good(const uint8_t *store, size_t length);
+/* The same test; of a good store it also tells what it read at either end. */
+bool twin_examine(const uint8_t *store, size_t length, struct reach reach[2]);
 
 uint64_t twin_open(uint8_t *store, size_t length, uint64_t capacity);
 uint64_t twin_open_inverted(uint8_t *store, size_t length, uint64_t capacity);
@@ -38,7 +47,7 @@ uint64_t twin_list(const uint8_t *store, size_t length, const uint8_t *identifie
 
 void bare_open(uint8_t *store, size_t capacity, enum reading reading);
 uint64_t bare_add(uint8_t *store, enum side side, uint8_t letter);
-uint64_t bare_remove(uint8_t *store, enum side side);
+uint64_t bare_remove(uint8_t *store, enum side side, struct reach reach);
 /* Letters and capacity stay, and the rows are those of the letters added at the right of a record opened in this reading;
  * nothing is written where that is the reading already. */
 void bare_turn(uint8_t *store, enum reading reading);

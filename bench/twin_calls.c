@@ -31,11 +31,12 @@ static uint64_t add(uint8_t *store, size_t length, enum side side, uint64_t lett
 
 static uint64_t take(uint8_t *store, size_t length, enum side side)
 {
-    if (!twin_is_good(store, length))
+    struct reach reach[2];
+    if (!twin_examine(store, length, reach))
         return 3;
     if (size_of(store) == 0)
         return 6;
-    return bare_remove(store, side);
+    return bare_remove(store, side, reach[side]);
 }
 
 static uint64_t turn(uint8_t *store, size_t length, enum reading reading)

@@ -45,25 +45,19 @@ static void drop(uint8_t *b, unsigned q)
     put(b, 0, 10, last);
 }
 
-uint64_t bare_remove(uint8_t *b, enum side side)
+uint64_t bare_remove(uint8_t *b, enum side side, struct reach reach)
 {
-    unsigned n = size_of(b), q = end_row(b, side), last = EMPTY;
-    struct view v = view_of(b, side);
-    bool met = q == EMPTY; /* the empty string stands everywhere, and is no repeat that could go */
-    for (size_t k = 0; k + 1 < n; k++) {
-        last = step(b, v, k, last, seen(v, k));
-        met |= last == q;
-    }
-    uint8_t letter = raw(v, n - 1);
+    unsigned n = size_of(b), q = end_row(b, side);
+    uint8_t *w = b + (letters_of(b) - b), letter = w[side == LEFT ? 0 : n - 1];
     if (get(b, q, LENGTH) == n + 1)
         set_end_row(b, side == LEFT ? RIGHT : LEFT, get(b, q, LINK));
-    set_end_row(b, side, last);
-    uint8_t *w = b + (letters_of(b) - b);
+    set_end_row(b, side, reach.shorter);
     if (side == LEFT)
         memmove(w, w + 1, n - 1);
     w[n - 1] = 0;
     put(b, 0, 9, n - 1);
-    if (!met)
-        drop(b, q);
-    return met ? answer(false, 0, letter, 0) : answer(true, q, letter, 0);
+    if (reach.again)
+        return answer(false, 0, letter, 0);
+    drop(b, q);
+    return answer(true, q, letter, 0);
 }

@@ -47,20 +47,12 @@ uint64_t twin_longest(const uint8_t *store, size_t length)
 
 static uint64_t longest_at(const uint8_t *store, size_t length, enum side side)
 {
-    if (!twin_is_good(store, length))
+    struct reach reach[2];
+    if (!twin_examine(store, length, reach))
         return 3;
-    unsigned n = size_of(store), end = end_row(store, side), row = EMPTY;
-    if (n == 0)
+    if (size_of(store) == 0)
         return 6;
-    if (end == EMPTY)
-        return answer(false, EMPTY, 0, 0);
-    struct view v = view_of(store, side);
-    bool met = false;
-    for (size_t k = 0; k + 1 < n; k++) {
-        row = step(store, v, k, row, seen(v, k));
-        met |= row == end;
-    }
-    return answer(!met, end, 0, 0);
+    return answer(!reach[side].again, end_row(store, side), 0, 0);
 }
 
 uint64_t twin_longest_left(const uint8_t *store, size_t length) { return longest_at(store, length, LEFT); }

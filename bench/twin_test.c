@@ -1,12 +1,18 @@
 /* The twin's test of a store: it makes every decision that the library's test makes (crates/audit), for any bytes of
- * any length. Sizes first, so that nothing is read outside the store; then letters and free places, roots, the sparse
- * set; then the letters are read again, each row tested and its length counted when it is first met; last the header's
- * count, ends and longest, what was counted, the edges of the rows in use, and zero in the free ones. */
+ * any length. Sizes first, so that nothing is read outside the store; then letters, free places and roots; then the letters
+ * are read, each row tested and its length counted when it is first met; then the header's count, ends and longest; last one
+ * pass over the rows. Each row met was tested, and the edge that leads to it, so that pass only counts: no more edges lead
+ * anywhere, and no more rows say anything, than rows were met. */
 #include "links.h"
 #include "twin.h"
 
+/* Where the reading of the letters stands: the rows of the longest palindromes at either end of those read, of the longest
+ * at the right one letter earlier and of the longest at the left without the first letter; whether the one at the right
+ * stood before the last letter, and whether the one at the left stands without the first. */
 struct tour {
-    unsigned row, left, met, longest;
+    unsigned row, before, left, second;
+    bool known, again;
+    unsigned met, longest;
 };
 
 static bool sized(const uint8_t *b, size_t length)
@@ -31,35 +37,15 @@ static bool letters_right(const uint8_t *b)
     return true;
 }
 
-/* Cells 0 to 7 of a row as two wide loads. */
-static bool row_is_zero(const uint8_t *b, size_t row)
+/* Four cells of a row from the first or the fifth on, as one wide load. */
+static inline uint64_t four_cells(const uint8_t *b, size_t row, size_t from)
 {
-    uint64_t half[2];
-    memcpy(half, b + ROW_BYTES * row, sizeof half);
-    return (half[0] | half[1]) == 0;
+    uint64_t four;
+    memcpy(&four, b + ROW_BYTES * row + 2 * from, sizeof four);
+    return four;
 }
 
-/* Cells 0 to 3 of both roots as one wide load each. */
-static bool roots_right(const uint8_t *b)
-{
-    uint64_t imaginary, empty;
-    memcpy(&imaginary, b, sizeof imaginary);
-    memcpy(&empty, b + ROW_BYTES, sizeof empty);
-    return imaginary == 0 && empty == 1;
-}
-
-/* There are as many places as rows, so where each place holds a row of its own every row is held: no second test goes from the
- * rows to their places. */
-static bool order_right(const uint8_t *b)
-{
-    unsigned capacity = capacity_of(b);
-    for (unsigned i = 0; i < capacity; i++) {
-        unsigned row = get(b, i + 2, ORDER);
-        if (row < 2 || row >= capacity + 2 || get(b, row, RANK) != i)
-            return false;
-    }
-    return true;
-}
+static bool roots_right(const uint8_t *b) { return four_cells(b, IMAGINARY, 0) == 0 && four_cells(b, EMPTY, 0) == 1; }
 
 static inline bool points_back(const uint8_t *b, unsigned capacity, unsigned u, uint8_t d, unsigned q)
 {
@@ -84,73 +70,104 @@ static inline void count_row(const uint8_t *b, uint16_t *carried, struct tour *t
         t->longest = stored - 1;
 }
 
-static bool replay(const uint8_t *b, uint8_t *marks, uint16_t *carried, struct tour *t)
+/* The left end once k + 1 letters are read, of which row q holds the longest palindrome that ends them. What is all letters is
+ * new, and begins them now; else what began them does, and stands again if it did or is q: inside a longer one that ends them it
+ * would have stood before, at that one's other end. A palindrome of all letters but the first is q or, where q is all letters,
+ * its link. */
+static inline void left_after(const uint8_t *b, struct tour *t, size_t k, unsigned q)
+{
+    size_t stored = get(b, q, LENGTH);
+    if (stored == k + 2) {
+        unsigned link = get(b, q, LINK);
+        t->left = q;
+        t->again = false;
+        if (get(b, link, LENGTH) == k + 1)
+            t->second = link;
+        return;
+    }
+    if (stored == k + 1)
+        t->second = q;
+    t->again |= q == t->left;
+}
+
+static bool replay(const uint8_t *b, uint8_t *marks, uint16_t *carried, struct tour *to)
 {
     unsigned capacity = capacity_of(b);
     size_t n = size_of(b);
     struct view v = view_of(b, RIGHT);
+    struct tour t = *to;
     for (size_t k = 0; k < n; k++) {
         uint8_t d = v.first[k];
-        unsigned u = walk(b, v, k, t->row, d), q = edge_of(b, u, d);
+        unsigned u = walk(b, v, k, t.row, d), q = edge_of(b, u, d);
+        t.before = t.row;
+        t.known = true;
         if (!serves(v, u)) {
-            t->row = EMPTY;
+            t.row = EMPTY;
             continue;
         }
         if (!points_back(b, capacity, u, d, q))
             return false;
+        t.row = q;
         if (!marks[q]) {
             if (!row_fits(b, v, k, u, d, q))
                 return false;
             marks[q] = 1;
-            count_row(b, carried, t, q);
-            t->met++;
+            count_row(b, carried, &t, q);
+            t.met++;
+            t.known = false;
         }
-        if (get(b, q, LENGTH) > k + 1)
-            t->left = q;
-        t->row = q;
+        left_after(b, &t, k, q);
     }
+    *to = t;
     return true;
 }
 
-static inline bool edge_right(const uint8_t *b, const uint8_t *marks, unsigned capacity, unsigned r, uint8_t d)
+/* A row's place names it, so no two rows have the same place; there are as many places as rows, and the order is right. */
+static inline bool row_right(const uint8_t *b, const uint16_t *carried, unsigned capacity, unsigned r)
 {
-    unsigned q = edge_of(b, r, d);
-    return q == 0 || (points_back(b, capacity, r, d, q) && marks[q]);
+    unsigned rank = get(b, r, RANK);
+    return rank < capacity && get(b, rank + 2, ORDER) == r && get(b, r, CARRIED) == carried[r];
 }
 
-static inline bool edges_right(const uint8_t *b, const uint8_t *marks, unsigned capacity, unsigned r)
+/* A one for each of a row's four edges that leads to a row, each in sixteen bits of its own: 1,026 rows together do not fill
+ * them. */
+static inline uint64_t edges_of(const uint8_t *b, unsigned r)
 {
-    return edge_right(b, marks, capacity, r, 'A') && edge_right(b, marks, capacity, r, 'C')
-           && edge_right(b, marks, capacity, r, 'G') && edge_right(b, marks, capacity, r, 'T');
+    uint64_t four = four_cells(b, r, EDGE), low = 0x7fff7fff7fff7fff;
+    return (((four & low) + low) | four) >> 15 & 0x0001000100010001;
 }
 
-static bool rows_right(const uint8_t *b, const uint8_t *marks, const uint16_t *carried)
+static bool rows_right(const uint8_t *b, const uint16_t *carried, unsigned met)
 {
-    unsigned capacity = capacity_of(b), count = count_of(b);
-    for (unsigned r = 0; r < capacity + 2; r++) {
-        if (r >= 2 && get(b, r, CARRIED) != carried[r])
+    unsigned capacity = capacity_of(b), said = 0;
+    uint64_t edges = edges_of(b, IMAGINARY) + edges_of(b, EMPTY);
+    for (unsigned r = 2; r < capacity + 2; r++) {
+        if (!row_right(b, carried, capacity, r))
             return false;
-        if (r >= 2 && get(b, r, RANK) >= count) {
-            if (!row_is_zero(b, r))
-                return false;
-            continue;
-        }
-        if ((r >= 2 && !marks[r]) || !edges_right(b, marks, capacity, r))
-            return false;
+        edges += edges_of(b, r);
+        said += four_cells(b, r, 0) != 0;
     }
-    return true;
+    return (edges & 0xffff) + (edges >> 16 & 0xffff) + (edges >> 32 & 0xffff) + (edges >> 48) == met && said == met;
 }
 
-bool twin_is_good(const uint8_t *b, size_t length)
+bool twin_examine(const uint8_t *b, size_t length, struct reach reach[2])
 {
-    if (!sized(b, length) || !letters_right(b) || !roots_right(b) || !order_right(b))
+    if (!sized(b, length) || !letters_right(b) || !roots_right(b))
         return false;
     uint8_t marks[ROWS_MOST] = {0};
     uint16_t carried[ROWS_MOST] = {0};
-    struct tour t = {EMPTY, EMPTY, 0, 0};
+    struct tour t = {.row = EMPTY, .before = EMPTY, .left = EMPTY, .second = EMPTY, .known = true, .again = true};
     if (!replay(b, marks, carried, &t))
         return false;
     if (t.met != count_of(b) || t.left != end_row(b, LEFT) || t.row != end_row(b, RIGHT) || t.longest != longest_of(b))
         return false;
-    return rows_right(b, marks, carried);
+    reach[LEFT] = (struct reach){t.second, t.again};
+    reach[RIGHT] = (struct reach){t.before, t.known};
+    return rows_right(b, carried, t.met);
+}
+
+bool twin_is_good(const uint8_t *b, size_t length)
+{
+    struct reach reach[2];
+    return twin_examine(b, length, reach);
 }
