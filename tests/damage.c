@@ -1,7 +1,8 @@
 /* Damaged stores: a good store of either reading is made by calls, damaged in one of the ways of damages.c, and then every
  * call that takes a store must answer 3 exactly where the judge finds it not good, must answer as the oracle says where it
- * is good, and must change no byte where it refuses. In small stores each cell that carries a number of repeats or the largest
- * length is changed in turn, and each cell that is not used. Usage: damage [seed [rounds]] */
+ * is good, and must change no byte where it refuses. In small stores each cell of each row is changed in turn: those that say
+ * something of a palindrome, its edges and its place or of an end, those that carry a number of repeats or the largest length,
+ * and those that are not used. Usage: damage [seed [rounds]] */
 #include "damages.h"
 #include "guard.h"
 #include "mirror.h"
@@ -133,7 +134,7 @@ static void one_kind(const damage *d, unsigned reading, int rounds)
 /* by what the layout says the damaged store is bad, or still good */
 static void must_be(int bad)
 {
-    if (judged_bad() != bad) stop(bad ? "a number that is carried" : "a cell that is not used", bad ? "it may be wrong" : "it may not be changed");
+    if (judged_bad() != bad) stop(bad ? "a cell that says something" : "a cell that is not used", bad ? "it may be wrong" : "it may not be changed");
 }
 
 static void one_cell(size_t r, size_t cell, unsigned value, int bad)
@@ -141,6 +142,16 @@ static void one_cell(size_t r, size_t cell, unsigned value, int bad)
     copy_good();
     layout_put(damaged, r, cell, value);
     must_be(bad);
+}
+
+/* each cell of what a row says, of its edges, of the order and of the ends, with another number: none but its own is right */
+static void every_row_cell(void)
+{
+    for (size_t r = 0; r < shows.capacity + 2; r++)
+        for (size_t f = 0; f < (r == 0 ? CELL_CAPACITY : CELL_CARRIED); f++) {
+            unsigned now = layout_cell(good, r, f), choice[4] = {now + 1, now - 1, now + 256, now + 2 + random_below(8)};
+            one_cell(r, f, choice[random_below(4)], 1);
+        }
 }
 
 static void carried_exchanged(size_t r, size_t q)
@@ -173,6 +184,7 @@ static void small_stores(unsigned reading)
         for (int i = 0; i < SMALL_STORES; i++) {
             guard_at(i % 2 ? GUARD_BEFORE : GUARD_AFTER);
             make_good(reading, capacity);
+            every_row_cell();
             every_carried_cell();
         }
 }

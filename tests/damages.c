@@ -33,6 +33,14 @@ int set_cell(uint8_t *store, size_t r, size_t f, unsigned value)
     return 1;
 }
 
+int open_edge(const uint8_t *store, unsigned r)
+{
+    size_t c = random_below(4);
+    for (size_t i = 0; i < 4; i++)
+        if (layout_cell(store, r, CELL_EDGES + (c + i) % 4) == 0) return (int)((c + i) % 4);
+    return -1;
+}
+
 unsigned renamed(unsigned value, unsigned r, unsigned q)
 {
     return value == r ? q : value == q ? r : value;
@@ -56,6 +64,7 @@ static int zeros(uint8_t *store, size_t *length, const shown *s)
     return 1;
 }
 
+/* new kinds come last: the fuzz inputs name a kind by its place */
 const damage damages[] = {
     {"one byte", MAKES_GOOD | MAKES_BAD, one_byte},
     {"one bit", MAKES_GOOD | MAKES_BAD, one_bit},
@@ -110,5 +119,11 @@ const damage damages[] = {
     {"another length counted", MAKES_BAD, another_length_counted},
     {"junk", MAKES_BAD, junk},
     {"zeros", MAKES_BAD, zeros},
+    {"an edge too many", MAKES_BAD, an_edge_too_many},
+    {"an edge moved", MAKES_BAD, an_edge_moved},
+    {"an edge of a free row", MAKES_BAD, an_edge_of_a_free_row},
+    {"two rows of one rank", MAKES_BAD, two_rows_of_one_rank},
+    {"two places of one row", MAKES_BAD, two_places_of_one_row},
+    {"a rank past the places", MAKES_BAD, a_rank_past_the_places},
 };
 const size_t damage_kinds = sizeof damages / sizeof damages[0];

@@ -97,12 +97,23 @@ int length_cut(uint8_t *store, size_t *length, const shown *s)
 
 /* ---- what is free holds something */
 
+/* one cell, in some of which the low byte alone is zero */
 int something_in_a_free_row(uint8_t *store, size_t *length, const shown *s)
 {
     (void)length;
     unsigned r = row_that_is(s, 0);
     if (r == 0) return 0;
-    layout_put(store, r, random_below(8), 1 + random_below((unsigned)s->capacity + 2));
+    layout_put(store, r, random_below(8), random_below(4) ? 1 + random_below((unsigned)s->capacity + 2) : 256 * (1 + random_below(255)));
+    return 1;
+}
+
+/* it leads to a row in use, or to a root's */
+int an_edge_of_a_free_row(uint8_t *store, size_t *length, const shown *s)
+{
+    (void)length;
+    unsigned r = row_that_is(s, 0), to = random_below(4) ? row_that_is(s, 1) : 1;
+    if (r == 0 || to == 0) return 0;
+    layout_put(store, r, CELL_EDGES + random_below(4), to);
     return 1;
 }
 
@@ -159,6 +170,37 @@ int edges_exchanged(uint8_t *store, size_t *length, const shown *s)
     unsigned kept = layout_cell(store, r, f);
     if (!set_cell(store, r, f, layout_cell(store, r, g))) return 0;
     layout_put(store, r, g, kept);
+    return 1;
+}
+
+/* a row in use or a root */
+static unsigned edges_from(const shown *s)
+{
+    return random_below(2) ? row_that_is(s, 1) : random_below(2);
+}
+
+/* an edge that no letter needs: to a row in use, most of which name another, to a free one, or to the empty string's */
+int an_edge_too_many(uint8_t *store, size_t *length, const shown *s)
+{
+    (void)length;
+    unsigned r = edges_from(s), choice[4] = {row_that_is(s, 1), row_that_is(s, 1), row_that_is(s, 0), 1}, to = choice[random_below(4)];
+    int c = open_edge(store, r);
+    if (to == 0 || c < 0) return 0;
+    layout_put(store, r, CELL_EDGES + (size_t)c, to);
+    return 1;
+}
+
+/* the edge to a row starts from another row or by another letter: there are as many edges as before */
+int an_edge_moved(uint8_t *store, size_t *length, const shown *s)
+{
+    (void)length;
+    unsigned q = row_that_is(s, 1), r = edges_from(s);
+    int c = open_edge(store, r);
+    if (q == 0 || c < 0) return 0;
+    unsigned inner = layout_cell(store, q, CELL_INNER);
+    for (size_t f = CELL_EDGES; f < 8; f++)
+        if (layout_cell(store, inner, f) == q) layout_put(store, inner, f, 0);
+    layout_put(store, r, CELL_EDGES + (size_t)c, q);
     return 1;
 }
 

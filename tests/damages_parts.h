@@ -10,6 +10,8 @@ unsigned any_row(const shown *s);
 unsigned row_that_is(const shown *s, int used);
 /* cells from one to before another of two rows exchanged */
 void exchange_cells(uint8_t *store, size_t r, size_t q, size_t from, size_t to);
+/* an edge of row r that leads nowhere; -1 where every one leads somewhere */
+int open_edge(const uint8_t *store, unsigned r);
 /* a cell with another value than it holds; 0 where it holds this one */
 int set_cell(uint8_t *store, size_t r, size_t f, unsigned value);
 /* carries the lengths that the rows in use say, whatever the letters are */
@@ -32,6 +34,7 @@ DAMAGE(length_cut);
 
 /* what is free holds something */
 DAMAGE(something_in_a_free_row);
+DAMAGE(an_edge_of_a_free_row);
 DAMAGE(a_former_row_left);
 DAMAGE(a_letter_after_the_last);
 DAMAGE(a_letter_in_a_root);
@@ -40,6 +43,8 @@ DAMAGE(a_letter_in_a_root);
 DAMAGE(link_redirected);
 DAMAGE(edge_redirected);
 DAMAGE(edges_exchanged);
+DAMAGE(an_edge_too_many);
+DAMAGE(an_edge_moved);
 DAMAGE(inner_redirected);
 DAMAGE(end_redirected);
 DAMAGE(ends_exchanged);
@@ -54,6 +59,9 @@ DAMAGE(order_permuted);
 DAMAGE(order_without_rank);
 DAMAGE(rank_without_order);
 DAMAGE(used_listed_as_free);
+DAMAGE(two_rows_of_one_rank);
+DAMAGE(two_places_of_one_row);
+DAMAGE(a_rank_past_the_places);
 
 /* rows too many, too few, or of another record */
 DAMAGE(row_grafted);

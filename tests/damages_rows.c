@@ -89,16 +89,34 @@ int used_listed_as_free(uint8_t *store, size_t *length, const shown *s)
     return 1;
 }
 
-/* ---- rows too many, too few, or of another record */
-
-/* an edge around row r that is 0: the row of a word that does not stand; -1 where every edge is taken */
-static int open_edge(const uint8_t *store, unsigned r)
+/* a row is given the rank of another, whose place names that one still */
+int two_rows_of_one_rank(uint8_t *store, size_t *length, const shown *s)
 {
-    size_t c = random_below(4);
-    for (size_t i = 0; i < 4; i++)
-        if (layout_cell(store, r, CELL_EDGES + (c + i) % 4) == 0) return (int)((c + i) % 4);
-    return -1;
+    (void)length;
+    return set_cell(store, any_row(s), CELL_RANK, layout_cell(store, any_row(s), CELL_RANK));
 }
+
+/* a place names the row of another place, whose rank is that one still */
+int two_places_of_one_row(uint8_t *store, size_t *length, const shown *s)
+{
+    (void)length;
+    return set_cell(store, any_row(s), CELL_ORDER, layout_cell(store, any_row(s), CELL_ORDER));
+}
+
+/* a row, mostly a free one, has a rank that is none, and where the place would be, behind all that is used, the row is named */
+int a_rank_past_the_places(uint8_t *store, size_t *length, const shown *s)
+{
+    unsigned r = row_that_is(s, random_below(4) == 0), rank = (unsigned)s->capacity, least, most;
+    while (ROW_BYTES * (rank + 2) + 2 * CELL_ORDER < layout_used(s->capacity)) rank++;
+    least = rank, most = (unsigned)*length / ROW_BYTES - 3;
+    if (r == 0 || most < least) return 0;
+    if (random_below(2)) rank = least + random_below(most - least + 1);
+    layout_put(store, r, CELL_RANK, rank);
+    layout_put(store, rank + 2, CELL_ORDER, r);
+    return 1;
+}
+
+/* ---- rows too many, too few, or of another record */
 
 /* fills row q as the eertree would for the word around row r, and hangs it at r */
 static void hang(uint8_t *store, const shown *s, unsigned q, unsigned r, int c)

@@ -296,6 +296,7 @@ void model_add(int left, uint64_t letter, int undo)
     if (fresh) bring_in(w, n, row);
     carries();
     same("longest length after an addition", raised, largest);
+    ask_ends();
 }
 
 /* a removal lowers the longest length by 0, 1 or 2, and in an inverted record, where each length is even, not by 1 */
@@ -327,6 +328,7 @@ void model_remove(int left)
     same("removal", packed(gone, gone ? repeats[i].row : 0, letter, 0), got);
     if (gone) repeats[i] = repeats[--count];
     lowered();
+    ask_ends();
 }
 
 /* the store as it was before a turn, opened in the reading in force, with the letters added at the right: the same bytes */

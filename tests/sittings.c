@@ -124,10 +124,11 @@ static void run(unsigned reading, int sittings)
         }
 }
 
-/* full length: every other word, and one word with turns, each at the ends that its place brings */
+/* full length: every word, in the first place added at one end and taken away at the other, in the second the other way round
+ * or at both ends; and one word with turns */
 static void run_full(unsigned reading, int place)
 {
-    for (int word = place; word < WORDS; word += 2) structured_sitting(reading, word, MODEL_MOST, (unsigned)(word + place) % 3, 0);
+    for (int word = 0; word < WORDS; word++) structured_sitting(reading, word, MODEL_MOST, (unsigned)(word + place) % 3, 0);
     int turned = AT + 2 * place + (int)reading;
     structured_sitting(reading, turned, MODEL_MOST, (unsigned)turned % 3, 1);
 }

@@ -1,6 +1,7 @@
 /* Two versions of the library side by side: each call goes to both with the same arguments and equal bytes lent, and the
- * answers and every lent byte afterwards must be equal. Long sittings at both ends with turns and every question, damaged
- * stores, FASTA texts and lists; nothing is judged here but that both do the same. tests/versions builds the two.
+ * answers and every lent byte afterwards must be equal. Long sittings at both ends with turns and every question, structured
+ * words up to full length with both ends asked at every letter, stores damaged in every way, FASTA texts and lists; nothing is
+ * judged here but that both do the same. tests/versions builds the two.
  *
  *     versions ONE.so OTHER.so SEED CALLS [LEFT OUT..]
  *
@@ -21,6 +22,7 @@ enum { MOST = 1024, PIECE = MOST + 8, FASTA_MOST = 8192, FASTA = LIBRARY_CALLS -
 enum { TEXT_SLOT, OUT_SLOT, SCRATCH_SLOT = OUT_SLOT + 2, STORE_SLOT = SCRATCH_SLOT + 2 };
 enum { EXTRA = 60 }; /* fewer bytes than this are lent beyond what a store needs; 48 would do for one letter more */
 enum { SMALL = 24 }; /* up to so many letters the judge, which damage asks, is fast */
+enum { ALL_A, PAIRS, FIBONACCI, THUE_MORSE, WORDS };
 
 static library both[2];
 static uint8_t *stores[2], *outs[2], *scratches[2], *text;
@@ -243,16 +245,16 @@ static void spoil_bytes(void)
     if (random_below(16) == 0) length -= 1 + random_below(EXTRA + 2);
 }
 
-/* The store of the sitting is damaged, in a way of damages.c while it is small, and gets every call. Where no inverted record
- * is opened one of the two may not know that reading, so a cell that came to name it is made to name none. */
-static void spoil(unsigned alphabet)
+/* The store of the sitting, which shows s, is damaged in a way of damages.c, or in some bytes where none is given, and gets
+ * every call. Where no inverted record is opened one of the two may not know that reading, so a cell that came to name it is
+ * made to name none. */
+static void spoil(const damage *d, const shown *s, unsigned alphabet)
 {
     static uint8_t kept[MIRROR_STORE_SIZE(MOST) + EXTRA], bad[MIRROR_STORE_SIZE(MOST) + EXTRA];
-    static shown s;
     unsigned long made_before = total;
     memcpy(kept, stores[0], whole);
-    if (size > SMALL || random_below(3) == 0 || judge(stores[0], length, &s) != NULL) spoil_bytes();
-    else damages[random_below((unsigned)damage_kinds)].make(stores[0], &length, &s);
+    if (d == NULL) spoil_bytes();
+    else d->make(stores[0], &length, s);
     if (without_inverted() && layout_cell(stores[0], 0, CELL_READING) == INVERTED) layout_put(stores[0], 0, CELL_READING, READINGS);
     memcpy(bad, stores[0], whole);
     for (call_kind kind = ADD_LEFT; kind < CALL_KINDS; kind++) {
@@ -263,6 +265,68 @@ static void spoil(unsigned alphabet)
     damaged_calls += total - made_before;
     length = whole;
     for (int i = 0; i < 2; i++) memcpy(stores[i], kept, whole);
+}
+
+static void spoil_somehow(unsigned alphabet)
+{
+    static shown s;
+    int bytes = size > SMALL || random_below(3) == 0 || judge(stores[0], length, &s) != NULL;
+    spoil(bytes ? NULL : &damages[random_below((unsigned)damage_kinds)], &s, alphabet);
+}
+
+static void spoil_in_every_way(void)
+{
+    static shown s;
+    if (judge(stores[0], length, &s) != NULL) return;
+    for (size_t i = 0; i < damage_kinds; i++) spoil(&damages[i], &s, 4);
+}
+
+/* ---- structured words */
+
+/* letter i of the Fibonacci word: 0 or 1 */
+static size_t fibonacci(size_t i)
+{
+    while (i > 1) {
+        size_t part = 1, longer = 2;
+        while (longer <= i) {
+            size_t sum = part + longer;
+            part = longer;
+            longer = sum;
+        }
+        i -= part;
+    }
+    return i;
+}
+
+/* letter i of a word with about as many repeats as letters; in an inverted record each is followed by its partner */
+static unsigned char letter_of(unsigned word, unsigned reading, size_t i)
+{
+    if (reading == INVERTED) return i % 2 ? rule[letter_of(word, PLAIN, i / 2)] : letter_of(word, PLAIN, i / 2);
+    size_t second = word == ALL_A ? 0 : word == PAIRS ? i % 2 : word == FIBONACCI ? fibonacci(i) : (size_t)__builtin_parityl(i);
+    return (unsigned char)"AC"[second];
+}
+
+/* an addition or a removal at the right (0), at the left (1) or at either end (2), then what stands at both */
+static void change_at(unsigned ends, call_kind at_left, uint64_t letter)
+{
+    unsigned right = ends == 2 ? random_below(2) : ends == 0;
+    call c = {at_left + right, letter, NULL, 0, 0, 0};
+    follow(&c, make(&c));
+    for (call_kind kind = LONGEST_LEFT; kind <= LONGEST_RIGHT; kind++) {
+        call asked = {kind, 0, NULL, 0, 0, 0};
+        make(&asked);
+    }
+}
+
+/* a word of n letters joins and is taken away again, and where it is longest it is damaged in every way */
+static void word_sitting(size_t n)
+{
+    unsigned reading = without_inverted() ? PLAIN : random_below(READINGS), word = random_below(WORDS), joined = random_below(3), taken = random_below(3);
+    fill(MIRROR_STORE_SIZE(n) + random_below(EXTRA));
+    if (!open_both(reading, n)) return;
+    for (size_t i = 0; i < n && total < budget; i++) change_at(joined, ADD_LEFT, letter_of(word, reading, i));
+    if (!stores_apart) spoil_in_every_way();
+    for (size_t i = 0; i < n && total < budget; i++) change_at(taken, REMOVE_LEFT, 0);
 }
 
 /* ---- FASTA texts */
@@ -315,13 +379,19 @@ static size_t some_capacity(void)
     return kind < 30 ? 1 + random_below(6) : kind < 70 ? 1 + random_below(SMALL) : kind < 97 ? 1 + random_below(100) : kind < 99 ? 1 + random_below(MOST) : MOST;
 }
 
+static size_t some_word_length(void)
+{
+    return random_below(8) ? 1 + random_below(64) : random_below(3) ? 1 + random_below(MOST) : MOST;
+}
+
 static void run(void)
 {
     while (total < budget) {
         unsigned alphabet = 1 + random_below(4);
         guard_at(random_below(2) ? GUARD_BEFORE : GUARD_AFTER);
         sitting(some_capacity(), alphabet);
-        for (unsigned i = 0; !stores_apart && i < 6; i++) spoil(alphabet);
+        for (unsigned i = 0; !stores_apart && i < 6; i++) spoil_somehow(alphabet);
+        if (random_below(16) == 0) word_sitting(some_word_length());
         for (unsigned i = 0; i < 20; i++) read_text();
     }
 }
