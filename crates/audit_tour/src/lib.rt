@@ -24,8 +24,10 @@ use walk::frame::Frame;
 use walk::frame::frame_of;
 use walk::frame::standing;
 
-// Where a tour stands: of either end of the letters so far what is known of it, and how many rows were met. The numbers lie
-// side by side, not in two structs, so that each stays in a register of its own.
+// Where a tour stands. Of the right end of the letters so far: the row of the longest palindrome there, the row of the
+// longest there one letter before, and whether the first was known then. Of the left end: the row of the longest there, the
+// row of the longest without the first letter, and whether the first stands without it again. And how many rows were met.
+// The numbers lie side by side, not in a struct for either end, so that each stays in a register of its own.
 pub struct Tour {
     pub row: usize,
     pub before: usize,

@@ -1,5 +1,5 @@
-// The partners of letters: one table of all byte values for inverted records, and a letter's partner
-// in either reading.
+// The partners of letters: one table of all byte values for inverted records, and a table for either
+// reading.
 ghost use mathlib.Core.Path.{_≡_};
 ghost use lib.ListN.{getD};
 ghost use Rattle.partners.specs.Table.{PartnersIn};
