@@ -70,11 +70,10 @@ static inline void count_row(const uint8_t *b, uint16_t *carried, struct tour *t
         t->longest = stored - 1;
 }
 
-/* The left end once k + 1 letters are read, of which row q holds the longest palindrome that ends them. What is all letters is
- * new, and begins them now; else what began them does, and stands again if it did or is q: inside a longer one that ends them it
- * would have stood before, at that one's other end. A palindrome of all letters but the first is q or, where q is all letters,
- * its link. */
-static inline void left_after(const uint8_t *b, struct tour *t, size_t k, unsigned q)
+/* The left end at a row q that is met for the first time, of the longest palindrome that ends the k + 1 letters then read. What
+ * is all letters begins them now; else what began them does. A palindrome of all letters but the first is q or, where q is all
+ * letters, its link. */
+static inline void left_new(const uint8_t *b, struct tour *t, size_t k, unsigned q)
 {
     size_t stored = get(b, q, LENGTH);
     if (stored == k + 2) {
@@ -83,11 +82,9 @@ static inline void left_after(const uint8_t *b, struct tour *t, size_t k, unsign
         t->again = false;
         if (get(b, link, LENGTH) == k + 1)
             t->second = link;
-        return;
-    }
-    if (stored == k + 1)
+    } else if (stored == k + 1) {
         t->second = q;
-    t->again |= q == t->left;
+    }
 }
 
 static bool replay(const uint8_t *b, uint8_t *marks, uint16_t *carried, struct tour *to)
@@ -108,15 +105,17 @@ static bool replay(const uint8_t *b, uint8_t *marks, uint16_t *carried, struct t
         if (!points_back(b, capacity, u, d, q))
             return false;
         t.row = q;
-        if (!marks[q]) {
-            if (!row_fits(b, v, k, u, d, q))
-                return false;
-            marks[q] = 1;
-            count_row(b, carried, &t, q);
-            t.met++;
-            t.known = false;
+        if (marks[q]) { /* neither all letters nor all but the first: the left end stays, and may stand again */
+            t.again |= q == t.left;
+            continue;
         }
-        left_after(b, &t, k, q);
+        if (!row_fits(b, v, k, u, d, q))
+            return false;
+        marks[q] = 1;
+        count_row(b, carried, &t, q);
+        t.met++;
+        t.known = false;
+        left_new(b, &t, k, q);
     }
     *to = t;
     return true;

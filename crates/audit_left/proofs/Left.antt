@@ -1,5 +1,5 @@
--- The left end with one letter more at the right. Where no palindrome ends the letters it stays (`left-none`). Else it is as the code of `left_after` says, by whether the longest that
--- ends the letters is all of them (`left-whole`) or not (`left-kept`). Rests on what begins letters (`Prefixes`), on what stands again (`Again`), and on the rows of the longest and of its link.
+-- The left end with one letter more at the right. Where no palindrome ends the letters it stays (`left-none`). Where the longest that
+-- ends them stood before, what began them does (`left-known`). Else it is new: all of them (`left-whole`) or not (`left-kept`). Rests on what begins letters (`Prefixes`), on what stands again (`Again`), and on the rows of the longest and of its link.
 use Prim.Native.Nat.{ℕ, _+_, _≤_}
 use native.Mathlib.Omega.{arith}
 use mathlib.Core.Path.{_≡_, refl, sym, ap, _∙_, subst}
@@ -9,7 +9,7 @@ use mathlib.Core.List.{[], _∷_, _++_}
 use lib.Dec.{eqb}
 use lib.IntN.{pos}
 use lib.ListN.{length, length-append}
-use borrow.Author.Tests.{eqb-true, eqb-false, eq-eqb}
+use borrow.Author.Tests.{eqb-true, eqb-false, eq-eqb, ne-eqb}
 use Rattle.palindromes.specs.Word.{Word}
 use Rattle.palindromes.specs.Palindrome.{SelfInverse}
 use Rattle.palindromes.specs.Place.{Stands, stands}
@@ -28,8 +28,9 @@ use Rattle.store.specs.Good.{ruleOf, nodeIn}
 use Rattle.ends.specs.Reach.{Reaches}
 use Rattle.ends.specs.declared.Reach.{Reach}
 use Rattle.audit_left.specs.Left.{Reads}
-use Rattle.audit_left.proofs.Prefixes.{rest, rest-length, link-whole, ends-rest, prefix-kept, prefix-whole, short-all, short-kept, short-none}
+use Rattle.audit_left.proofs.Prefixes.{rest, rest-length, link-whole, ends-rest, prefix-kept, prefix-whole, short-all, short-kept}
 use Rattle.audit_left.proofs.Again.{again-there, again-back}
+use Rattle.audit_left.proofs.Known.{short-known}
 
 -- the store's partner rule undoes itself
 inverse : (b : Word) → SelfInverse (ruleOf b)
@@ -97,11 +98,11 @@ module _ {b : Word} {used : ℕ → Bool} {p : Word} {d k q : ℕ} (s : Reads b 
               sym (not-true-false (stands (longestPrefix (ruleOf b) (p ++ (d ∷ []))) (rest p d)) λ h. omega (arith, s .size, rest-length p d, stands-length (stands-true _ (rest p d) h), ap length e));
         }
 
-    -- the longest that ends the letters is not all of them
-    pub left-kept : {short : ℕ} {again : Bool} → (length (longestSuffix (ruleOf b) (p ++ (d ∷ []))) ≡ k + 1 → ⊥) → ((n : ℕ) → lengthIn b q ≡ pos n → short ≡ cond (eqb n k) q (left .short))
-        → again ≡ (eqb q (left .row) || left .again) → Reaches b used atLeft (p ++ (d ∷ [])) (record { row = left .row; short = short; again = again })
+    -- it is new, and not all of them
+    pub left-kept : {short : ℕ} → (length (longestSuffix (ruleOf b) (p ++ (d ∷ []))) ≡ k + 1 → ⊥) → (Stands (longestSuffix (ruleOf b) (p ++ (d ∷ []))) p → ⊥)
+        → ((n : ℕ) → lengthIn b q ≡ pos n → short ≡ cond (eqb n k) q (left .short)) → Reaches b used atLeft (p ++ (d ∷ [])) (record { row = left .row; short = short; again = left .again })
     unfolding longestAt
-    left-kept {short} {again} n f g =
+    left-kept {short} n new f =
         let m : length (longestSuffix (ruleOf b) (p ++ (d ∷ []))) ≤ length p = omega (arith, n, s .size, suffix-length (longest-suffix (ruleOf b) (p ++ (d ∷ [])) .suffix), length-append p (d ∷ [])) in
         let e = prefix-kept (ruleOf b) p d (inverse b) m in
         let r = short-row (s .row-used) (s .row-holds ∙ ap spelt (ends-rest (ruleOf b) p d (inverse b) m)) f in
@@ -110,8 +111,29 @@ module _ {b : Word} {used : ℕ → Bool} {p : Word} {d k q : ℕ} (s : Reads b 
           row-holds = l .row-holds ∙ ap spelt (sym e);
           short-used = r .0;
           short-holds = r .1;
-          again-is = rw e (g ∙ stands-rest m);
+          again-is = rw e (ap (λ (t : Bool). t || left .again) (sym (ne-eqb q (left .row) other)) ∙ stands-rest m);
         }
+      where
+        -- its row is not that of what began the letters, which stood
+        other : q ≡ left .row → ⊥
+        other i =
+            let j : longestSuffix (ruleOf b) (p ++ (d ∷ [])) ≡ longestPrefix (ruleOf b) p = cc (s .row-holds, l .row-holds, i) in
+            new (subst (λ (v : Word). Stands v p) (sym j) (longest-at (ruleOf b) (inverse b) atLeft p .1))
+
+-- the longest that ends the letters stood before: what began them does, with the first letter and without it
+pub left-known : {b : Word} {used : ℕ → Bool} {p : Word} {d k q : ℕ} {left after : Reach} → Reads b used p d k q → Reaches b used atLeft p left → Stands (longestSuffix (ruleOf b) (p ++ (d ∷ []))) p
+    → (after .row ≡ left .row) × (after .short ≡ left .short) × (after .again ≡ (eqb q (left .row) || left .again)) → Reaches b used atLeft (p ++ (d ∷ [])) after
+unfolding longestAt
+left-known {b} {p} {d} s l h e =
+    let less = stands-length h in
+    let kept = prefix-kept (ruleOf b) p d (inverse b) less in
+    record {
+      row-used = rw (e .0) (l .row-used);
+      row-holds = rw (e .0) (l .row-holds ∙ ap spelt (sym kept));
+      short-used = rw (e .1) (l .short-used);
+      short-holds = rw (e .1) (l .short-holds ∙ ap spelt (sym (short-known (ruleOf b) (inverse b) p d h)));
+      again-is = rw kept (e .2 ∙ stands-rest s l less);
+    }
 
 -- no palindrome ends the letters: what began them stands in them but the first only if it did
 pub left-none : {b : Word} {used : ℕ → Bool} {p : Word} (d : ℕ) {left : Reach} → longestSuffix (ruleOf b) (p ++ (d ∷ [])) ≡ [] → Reaches b used atLeft p left → Reaches b used atLeft (p ++ (d ∷ [])) left
@@ -121,7 +143,7 @@ left-none {b} {p} d e l =
       row-used = l .row-used;
       row-holds = l .row-holds ∙ ap spelt (sym kept);
       short-used = l .short-used;
-      short-holds = l .short-holds ∙ ap spelt (sym (short-none (ruleOf b) (inverse b) p d e));
+      short-holds = l .short-holds ∙ ap spelt (sym (short-known (ruleOf b) (inverse b) p d (rw e (stands-empty p))));
       again-is = rw kept (l .again-is ∙ same-test (stands w (removed atLeft p)) (stands w (rest p d)) there back);
     }
   where

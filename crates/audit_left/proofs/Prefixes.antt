@@ -82,9 +82,3 @@ module _ (σ : ℕ → ℕ) (p : Word) (d : ℕ) where
     pub short-kept : (length (longestSuffix σ (rest p d)) ≡ length p → ⊥) → longestPrefix σ (rest p d) ≡ longestPrefix σ (removed atLeft p)
     unfolding longestAt
     short-kept n = without σ p d (whole-test σ inv atRight (rest p d) ∙ ne-eqb (length (longestSuffix σ (rest p d))) (length (rest p d)) (λ e. n (e ∙ rest-length p d)))
-
--- where no palindrome ends the letters, what begins them but the first is what did
-pub short-none : (σ : ℕ → ℕ) → SelfInverse σ → (p : Word) (d : ℕ) → longestSuffix σ (p ++ (d ∷ [])) ≡ [] → longestPrefix σ (rest p d) ≡ longestPrefix σ (removed atLeft p)
-unfolding removed withoutFirst
-short-none σ inv [] d e = refl
-short-none σ inv (x ∷ u) d e = short-kept σ (x ∷ u) d inv λ i. omega (arith, ap length (ends-rest σ (x ∷ u) d inv (omega (arith, ap length e))), ap length e)

@@ -5,6 +5,7 @@ use mathlib.Core.Bool.{Bool, true}
 use mathlib.Core.List.{[], _∷_, _++_}
 use lib.ListN.{length}
 use Rattle.palindromes.specs.Word.{Word}
+use Rattle.palindromes.specs.Place.{Stands}
 use Rattle.palindromes.specs.Record.{longestSuffix}
 use Rattle.palindromes.specs.End.{atLeft}
 use Rattle.palindromes.specs.Node.{spelt}
@@ -20,6 +21,7 @@ pub record Reads (b : Word) (used : ℕ → Bool) (p : Word) (d k q : ℕ) : Typ
   pub row-used : used q ≡ true
   pub row-holds : nodeIn b q ≡ spelt (longestSuffix (ruleOf b) (p ++ (d ∷ [])))
 
--- the left end is known with the letter, if it was without it
-abbrev pub LeftAfter : Word → (k q : ℕ) → (left after : Reach) → Type 0
-LeftAfter b k q left after = (used : ℕ → Bool) (p : Word) (d : ℕ) → Reads b used p d k q → Reaches b used atLeft p left → Reaches b used atLeft (p ++ (d ∷ [])) after
+-- the left end is known with the letter, if it was without it and the longest palindrome that ends p·d is new
+abbrev pub LeftNew : Word → (k q : ℕ) → (left after : Reach) → Type 0
+LeftNew b k q left after =
+    (used : ℕ → Bool) (p : Word) (d : ℕ) → Reads b used p d k q → (Stands (longestSuffix (ruleOf b) (p ++ (d ∷ []))) p → ⊥) → Reaches b used atLeft p left → Reaches b used atLeft (p ++ (d ∷ [])) after

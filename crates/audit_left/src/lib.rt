@@ -8,7 +8,7 @@ ghost use lib.Dec.{eqb};
 ghost use lib.IntN.{pos};
 ghost use lib.ListN.{length};
 ghost use Rattle.store.specs.Layout.{linkIn};
-ghost use Rattle.audit_left.specs.Left.{LeftAfter};
+ghost use Rattle.audit_left.specs.Left.{LeftNew};
 use ends::Reach;
 use store::rows;
 
@@ -36,12 +36,24 @@ fn stands_again(ends: usize, row: usize, again: bool) -> bool
     again
 }
 
-// The left end once k + 1 letters are read, of which row q holds the longest palindrome that ends them. If that is all of
-// them it is new, and without the first letter they are a palindrome exactly if its link has one letter less. Else what
-// begins the letters is what began them.
-pub fn left_after(b: &[u8], k: usize, q: usize, left: Reach) -> Reach
+// The left end at a row q that was met before, of the longest palindrome that ends the letters with one more: it is neither
+// all of them nor all but the first, so what begins the letters is what began them, with the first and without it.
+pub fn left_known(q: usize, left: Reach) -> Reach
+    ensures { λ r. ⌜ (r .row ≡ left .row) × (r .short ≡ left .short) × (r .again ≡ (eqb q (left .row) || left .again)) ⌝ }
+{
+    Reach {
+        row: left.row,
+        short: left.short,
+        again: stands_again(q, left.row, left.again),
+    }
+}
+
+// The left end at a row q that is met for the first time, of the longest palindrome that ends the k + 1 letters then read. If
+// that is all of them it stands once, and without the first letter they are a palindrome exactly if its link has one letter
+// less. Else what begins the letters is what began them, and stands again if it did: it is not the new one.
+pub fn left_new(b: &[u8], k: usize, q: usize, left: Reach) -> Reach
     requires { ⌜ (24 * q + 24 ≤ length (now b)) × (24 * linkIn (now b) q + 24 ≤ length (now b)) × (k < 65535) ⌝ }
-    ensures { λ r. ⌜ LeftAfter (now (b .entry)) k q left r ⌝ }
+    ensures { λ r. ⌜ LeftNew (now (b .entry)) k q left r ⌝ }
 {
     let size = rows::length_of(b, q);
     let all = (k + 1) as i32;
@@ -55,10 +67,9 @@ pub fn left_after(b: &[u8], k: usize, q: usize, left: Reach) -> Reach
         };
     }
     let short = begins(size, k, q, left.short);
-    let again = stands_again(q, left.row, left.again);
     Reach {
         row: left.row,
         short,
-        again,
+        again: left.again,
     }
 }

@@ -6,7 +6,7 @@ use Prim.Native.Nat.{ℕ, zero, suc, _+_, _*_, _≤_, _<_}
 use native.Mathlib.Numerals.{add-one}
 use native.Mathlib.Omega.{arith}
 use mathlib.Core.Path.{_≡_, refl, sym, ap, _∙_, subst}
-use mathlib.Core.Bool.{Bool, true, false}
+use mathlib.Core.Bool.{Bool, true, false, _||_}
 use mathlib.Core.Logic.{⊎-elim}
 use mathlib.Core.List.{[], _∷_, _++_}
 use lib.Dec.{eqb}
@@ -51,9 +51,9 @@ use Rattle.transitions.proofs.Start.{Roots, roots-cover}
 use Rattle.ends.specs.Reach.{Reaches}
 use Rattle.ends.specs.declared.Reach.{Reach}
 use Rattle.audit_fixed.specs.Counting.{countBelow}
-use Rattle.audit_left.specs.Left.{Reads, LeftAfter}
+use Rattle.audit_left.specs.Left.{Reads, LeftNew}
 use Rattle.audit_left.proofs.Reaches.{left-start, right-start, right-after, reaches-more}
-use Rattle.audit_left.proofs.Left.{left-none}
+use Rattle.audit_left.proofs.Left.{left-known, left-none}
 use Rattle.audit_edge.specs.Edge.{PointsBack, Walkable, LinkFound, alone, within, NewRow, right, not-longer, not-used, not-linked}
 use Rattle.audit_edge.proofs.Edge.{good-names}
 use Rattle.audit_lengths.specs.Lengths.{LengthsOf, Countable, Counted}
@@ -245,18 +245,14 @@ module _ {b marks carried : Word} {k : ℕ} {t : Tour} (s : Reading b marks carr
         → nodeIn b q ≡ spelt (longestSuffix (ruleOf b) (readIn b k ++ (d ∷ []))) → Reads b (metIn marks′) (readIn b k) d k q
     reads marks′ cov m f = record { size = sym read-length; covers = cov; row-used = m; row-holds = f }
 
-    -- the link of a row met before lies within the store
-    pub old-link : (q : ℕ) → getD marks q 0 ≡ 1 → 24 * linkIn b q + 24 ≤ length b
-    old-link q f = rows-fit (s .ready .sized) (linkIn b q) (s .toured .used (linkIn b q) (s .toured .covers .link-is q (met-marked marks q f) .0))
-
     -- to a row met before
-    pub tour-old : {q : ℕ} {left : Reach} {after : Tour} → PointsBack b u d q → getD marks q 0 ≡ 1 → LeftAfter b k q (reachAt atLeft t) left → Arrived t q true left (t .met) after
+    pub tour-old : {q : ℕ} {left : Reach} {after : Tour} → PointsBack b u d q → getD marks q 0 ≡ 1 → (left .row ≡ t .left) × (left .short ≡ t .second) × (left .again ≡ (eqb q (t .left) || t .again)) → Arrived t q true left (t .met) after
         → Toured b marks carried (readIn b (k + 1)) after
     tour-old {q} r f l x =
         let i = met-marked marks q f in
         let o = read-old (s .toured .covers) u d (w .met) (w .longest) q i (r .low) (r .inner) (r .outer) in
         arrived (w .next) (s .toured .long) (s .toured .used) (o .0) (lengths-same (same-snoc (ruleOf b) (readIn b k) d (o .2)) (s .toured .lengths))
-        x (l (metIn marks) (readIn b k) d (reads marks (o .0) i (o .1)) (s .toured .ends atLeft)) i (o .1) (s .toured .ends atRight .row-used) (sym (stands-is _ (readIn b k) (o .2)))
+        x (left-known (reads marks (o .0) i (o .1)) (s .toured .ends atLeft) (o .2) l) i (o .1) (s .toured .ends atRight .row-used) (sym (stands-is _ (readIn b k) (o .2)))
         (s .toured .met-is ∙ sym (count-old (ruleOf b) (readIn b k) d (o .2))) (s .toured .marked)
 
     -- the word of row u ends the letters read, if it has one
@@ -360,7 +356,7 @@ module _ {b marks carried : Word} {k : ℕ} {t : Tour} (s : Reading b marks carr
           }
 
       -- to a row that is met for the first time
-      pub tour-new : {left : Reach} {carried′ : Word} {after : Tour} → q ≡ edgeIn b u d → (getD marks q 0 ≡ 1 → ⊥) → NewRow b k d u q true → LeftAfter b k q (reachAt atLeft t) left
+      pub tour-new : {left : Reach} {carried′ : Word} {after : Tour} → q ≡ edgeIn b u d → (getD marks q 0 ≡ 1 → ⊥) → NewRow b k d u q true → LeftNew b k q (reachAt atLeft t) left
           → Arrived t q false left (t .met + 1) after → length carried′ ≡ length carried → Counted carried (cell b q 0) carried′ → Toured b (set marks q 1) carried′ (readIn b (k + 1)) after
       tour-new f n (right c y x) l arrives same counted =
           let old = met-unmarked marks q (r .low) n in
@@ -371,7 +367,7 @@ module _ {b marks carried : Word} {k : ℕ} {t : Tour} (s : Reading b marks carr
           let here = also q ∙ left-is (eqb q q) (metIn marks q) (eq-eqb q q refl) in
           let holds = new-word ∙ ap spelt (sym (w .longest)) in
           arrived (w .next) (length-set marks q 1 ∙ s .toured .long) (used-more y) cov (lengths-more (one-more-snoc (ruleOf b) (readIn b k) d fresh) (s .toured .lengths) (new-reach c) same counted)
-          arrives (l (metIn (set marks q 1)) (readIn b k) d (reads (set marks q 1) cov here holds) (reaches-more kept (s .toured .ends atLeft))) here holds (kept (t .row) (s .toured .ends atRight .row-used))
+          arrives (l (metIn (set marks q 1)) (readIn b k) d (reads (set marks q 1) cov here holds) fresh (reaches-more kept (s .toured .ends atLeft))) here holds (kept (t .row) (s .toured .ends atRight .row-used))
           (sym (not-true-false (stands _ (readIn b k)) (λ e. fresh (stands-true _ (readIn b k) e))))
           (omega (arith, s .toured .met-is, count-new (ruleOf b) (readIn b k) d fresh))
           (omega (arith, s .toured .marked, one-marked marks q (capacityIn b + 2) mark-inside (r .low) n (r .high)))

@@ -11,7 +11,8 @@ ghost use Rattle.walk.specs.Frame.{Frames, partnerIn};
 ghost use Rattle.audit_tour.specs.Tour.{Ready, Blank, readIn, reachAt, Arrived, Reading, Grows, Visited};
 use audit_edge::new_row_right;
 use audit_edge::points_back;
-use audit_left::left_after;
+use audit_left::left_known;
+use audit_left::left_new;
 use audit_lengths::count_row;
 use ends::Reach;
 use partners::partner_in;
@@ -99,7 +100,7 @@ pub fn enter(
         return Visit::Broken;
     }
     if marks[q] == 1 {
-        let known = left_after(b, k, q, reach_at(tour, Side::Left));
+        let known = left_known(q, reach_at(tour, Side::Left));
         return Visit::Next(arrive(tour, q, true, known, tour.met));
     }
     if !new_row_right(b, f, k, u, d, want, q) {
@@ -107,7 +108,7 @@ pub fn enter(
     }
     marks[q] = 1;
     count_row(b, carried, q);
-    let new = left_after(b, k, q, reach_at(tour, Side::Left));
+    let new = left_new(b, k, q, reach_at(tour, Side::Left));
     Visit::Next(arrive(tour, q, false, new, tour.met + 1))
 }
 

@@ -11,11 +11,11 @@ use Rattle.walk.proofs.Stores.{rows-fit}
 use Rattle.transitions.proofs.Rows.{row-fits}
 use Rattle.audit_fixed.proofs.Decided.{holds, fails}
 use Rattle.ends.specs.declared.Reach.{Reach}
-use Rattle.audit_left.specs.Left.{LeftAfter}
+use Rattle.audit_left.specs.Left.{LeftNew}
 use Rattle.audit_edge.specs.Edge.{PointsBack, NewRow}
 use Rattle.audit_tour.specs.Tour.{Reading}
 use Rattle.audit_tour.specs.declared.Tour.{Tour}
-use Rattle.audit_tour.proofs.Letter.{met-most, grown-walkable, new-countable, old-link, new-link, tour-old, tour-new, good-back, good-new}
+use Rattle.audit_tour.proofs.Letter.{met-most, grown-walkable, new-countable, new-link, tour-old, tour-new, good-back, good-new}
 use Rattle.audit_tour.proofs.enter.Statement.{statement}
 use Rattle.audit_tour.proofs.enter.Tie as tie
 
@@ -66,22 +66,13 @@ marked c = c .before
 abbrev first-of : tie.Then2 → tie.Else1
 first-of c = c .before .before
 
-left-after-requires : tie.Need-left-after-requires
-left-after-requires c κs =
-    let first = first-of (marked c) in
-    let q = first .before .before .edge-of .result in
-    let p = from-back first .pre .1 in
-    (row-fits (p .0 .ready .sized) q (named first .high), old-link (p .0) (p .1) q (marked c .if2 .taken), omega (arith, k-small (p .0)))
-
 returns-2 : tie.Need-returns-2
 returns-2 c =
     let left = c .before in
     let t = marked (left .before) in
     let first = first-of t in
-    let s = from-back first in
-    let q = first .before .before .edge-of .result in
-    tour-old (s .pre .1 .0) (s .pre .1 .1) (named first) (t .if2 .taken)
-    (subst (λ (x : Reach). LeftAfter (s .args .b .now) (s .args .k) q x (left .left-after .result)) (left .before .reach-at .ensures) (left .left-after .ensures)) (c .arrive .ensures)
+    let s = from-back first .pre .1 in
+    tour-old (s .0) (s .1) (named first) (t .if2 .taken) (rw (left .before .reach-at .ensures) at (left .left-known .ensures)) (c .arrive .ensures)
 
 new-row-right-requires : tie.Need-new-row-right-requires
 new-row-right-requires c κs =
@@ -120,8 +111,8 @@ count-row-requires c κs =
 abbrev third-of : tie.After-reach-at2 → tie.Else3
 third-of c = c .before .before .before .before .before
 
-left-after-requires-2 : tie.Need-left-after-requires-2
-left-after-requires-2 c κs =
+left-new-requires : tie.Need-left-new-requires
+left-new-requires c κs =
     let third = third-of c in
     let first = back-of-new third in
     let p = from-back first .pre .1 in
@@ -137,7 +128,7 @@ returns-4 c =
     let s = from-back first in
     let q = first .before .before .edge-of in
     tour-new (s .pre .1 .0) (s .pre .1 .1) (named first) (q .ensures .0) (second .if2 .left) (right third)
-    (subst (λ (x : Reach). LeftAfter (s .args .b .now) (s .args .k) (q .result) x (left .left-after2 .result)) (left .before .reach-at2 .ensures) (left .left-after2 .ensures))
+    (subst (λ (x : Reach). LeftNew (s .args .b .now) (s .args .k) (q .result) x (left .left-new .result)) (left .before .reach-at2 .ensures) (left .left-new .ensures))
     (c .arrive2 .ensures) (counted .count-row .kept .1 .0) (counted .count-row .ensures)
 
 pub enter-spec : {M : Type 1} → statement M
@@ -149,7 +140,7 @@ enter-spec =
     returns
     slice-read-if2
     (λ c κs. search needs)
-    left-after-requires
+    (λ c κs. search needs)
     (λ c κs. search needs)
     returns-2
     new-row-right-requires
@@ -157,7 +148,7 @@ enter-spec =
     slice-write-marks
     count-row-requires
     (λ c κs. search needs)
-    left-after-requires-2
+    left-new-requires
     (λ c. omega (arith, met-small (from-back (back-of-new (third-of (c .before .before))) .pre .1 .0)))
     (λ c κs. search needs)
     (λ c. search needs)

@@ -1,4 +1,4 @@
--- `audit_left::left_after` tells by its length whether the longest palindrome that ends the letters is all of them, and goes by its link then, and else by its row. Assumes nothing.
+-- `audit_left::left_new` tells by its length whether the longest palindrome that ends the letters is all of them, and goes by its link then. Assumes nothing.
 use borrow.Author.Needs.{needs}
 use mathlib.Core.Path.{sym, ap, _∙_}
 use mir.Syntax.{w32}
@@ -6,11 +6,11 @@ use mir.Val.{ofZ}
 use Rattle.store.specs.Layout.{lengthIn}
 use Rattle.store.proofs.Signed.{kept}
 use Rattle.audit_left.proofs.Left.{size-is, left-whole, left-kept}
-use Rattle.audit_left.proofs.left_after.Statement.{statement}
-use Rattle.audit_left.proofs.left_after.Tie as tie
+use Rattle.audit_left.proofs.left_new.Statement.{statement}
+use Rattle.audit_left.proofs.left_new.Tie as tie
 
 returns : tie.Need-returns
-returns c used p d s l =
+returns c used p d s new l =
     let i = c .before .before .before in
     let size = i .before .length-of .ensures .0 in
     let shorter = c .before .length-of2 .ensures in
@@ -20,16 +20,16 @@ returns c used p d s l =
     (λ n h. rw (← link) (c .begins .ensures n (kept (shorter .1) ∙ shorter .0 ∙ ap (lengthIn (i .before .before .before .args .b .now)) link ∙ h)))
 
 returns-2 : tie.Need-returns-2
-returns-2 c used p d s l =
-    let i = c .before .before in
+returns-2 c used p d s new l =
+    let i = c .before in
     let size = i .before .length-of .ensures in
     left-kept s l
     (λ e. i .if1 .left (ap (ofZ w32) (size .0 ∙ size-is s) ∙ e))
-    (λ n h. c .before .begins2 .ensures n (kept (size .1) ∙ size .0 ∙ h))
-    (c .stands-again .ensures)
+    new
+    (λ n h. c .begins2 .ensures n (kept (size .1) ∙ size .0 ∙ h))
 
-pub left-after-spec : {M : Type 1} → statement M
-left-after-spec =
+pub left-new-spec : {M : Type 1} → statement M
+left-new-spec =
     tie.close
     (tie.spec
     (λ c κs. search needs)
@@ -39,6 +39,5 @@ left-after-spec =
     (λ c κs. search needs)
     (λ c κs. search needs)
     returns
-    (λ c κs. search needs)
     (λ c κs. search needs)
     returns-2)
