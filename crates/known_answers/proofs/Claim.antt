@@ -1,4 +1,4 @@
--- Every starred answer is right, at every capacity of its line: one claim over the whole table, `known-answers`; and every answer of the inverted records, `inverted-answers`.
+-- Every starred answer is right, at every capacity of its line: one claim over the whole table, `known-answers`; every answer of the inverted records, `inverted-answers`; and what additions pass, `search-answers`.
 -- An answer depends on the capacity only through the test whether the record is full, which changes at most once as the capacity grows. So an answer that is
 -- right at the least and at the greatest capacity of its line is right at all between, and the two ends are computed, for the whole table at once.
 -- Assumes nothing.
@@ -18,10 +18,12 @@ use Rattle.palindromes.specs.Place.{startsWith, placesFrom, places, first, firs
 use Rattle.palindromes.specs.Record.{prefixes, suffixes, suffixesOfEach, stretches, palindromes, count, greatest, least, longestLength, longestPlace, longestSuffix}
 use Rattle.palindromes.specs.End.{added, withoutLast, withoutFirst, removed, letterAt, newIn}
 use Rattle.palindromes.specs.Node.{linkOf, innerOf, isNode}
+use Rattle.palindromes.specs.SearchSteps.{candidates, serves, passedBefore, searchSteps}
 use Rattle.palindromes.specs.Refusal.{fault, firstFault, faults, questionFaults, refusal}
-use Rattle.known_answers.specs.KnownAnswer.{Query, howMany, whichLongest, addition, removal, theLink, theInner, look, Answer, viewOf, unlessRefused, answer, KnownAnswer, Right, AllRight, none-left, one-more}
+use Rattle.known_answers.specs.KnownAnswer.{Query, howMany, whichLongest, addition, removal, theLink, theInner, look, search, Answer, viewOf, unlessRefused, answer, KnownAnswer, Right, AllRight, none-left, one-more}
 use Rattle.known_answers.specs.Starred.{starred}
 use Rattle.known_answers.specs.Inverted.{inverted}
+use Rattle.known_answers.specs.Searches.{searches}
 
 -- two capacities at which the record is full, or not, alike answer alike
 same-answer : (σ : ℕ → ℕ) (k m : ℕ) (s : Word) (query : Query) → leb k (length s) ≡ leb m (length s) → answer σ k s query ≡ answer σ m s query
@@ -33,6 +35,7 @@ same-answer σ k m s (removal end) e = refl
 same-answer σ k m s (theLink w) e = refl
 same-answer σ k m s (theInner w) e = refl
 same-answer σ k m s (look w) e = refl
+same-answer σ k m s (search c) e = rw e
 
 -- between two capacities the record is full as at one of them
 full-as : (a b k n : ℕ) → a ≤ k → k ≤ b → (leb k n ≡ leb a n) ⊎ (leb k n ≡ leb b n)
@@ -70,6 +73,11 @@ computed-inverted : map at-ends inverted ≡ map wanted inverted
 unfolding inverted complement answer unlessRefused viewOf refusal faults questionFaults fault firstFault isLetter allLetters isEmpty sameWord member keep distinct mirror isSymmetric isPalindrome startsWith placesFrom places first firstPlace prefixes suffixes suffixesOfEach stretches palindromes count greatest least longestLength longestPlace longestSuffix added withoutLast withoutFirst removed letterAt newIn linkOf innerOf isNode
 computed-inverted = refl
 
+-- and for what additions at the right pass
+computed-searches : map at-ends searches ≡ map wanted searches
+unfolding searches answer unlessRefused viewOf refusal faults fault firstFault isLetter isEmpty sameWord member keep mirror isSymmetric isPalindrome suffixes candidates serves passedBefore searchSteps
+computed-searches = refl
+
 -- the twelve starred sittings of document 01
 pub known-answers : AllRight starred
 known-answers = all-between starred computed
@@ -77,3 +85,7 @@ known-answers = all-between starred computed
 -- the answers of inverted records, GAATTC's among them
 pub inverted-answers : AllRight inverted
 inverted-answers = all-between inverted computed-inverted
+
+-- what additions at the right of a plain record pass, AC's 1 and 2 among them
+pub search-answers : AllRight searches
+search-answers = all-between searches computed-searches

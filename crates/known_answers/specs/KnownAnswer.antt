@@ -7,17 +7,19 @@ use mathlib.Core.Option.{none}
 use Prim.Native.Nat.{zero, suc}
 use Rattle.palindromes.specs.Word.{Word, member}
 use Rattle.palindromes.specs.Record.{palindromes, count, longestLength, longestPlace}
-use Rattle.palindromes.specs.End.{End, added, removed, letterAt, newIn}
+use Rattle.palindromes.specs.End.{End, atRight, added, removed, letterAt, newIn}
 use Rattle.palindromes.specs.Node.{Node, spelt, linkOf, innerOf, isNode}
+use Rattle.palindromes.specs.SearchSteps.{searchSteps}
 use Rattle.palindromes.specs.Refusal.{ask, add, remove, theCount, theLongest, find, View, storeSize, refusal}
 
--- what is asked; a row is named by the repeat that it holds, since the letters do not decide its number
+-- what is asked; a row is named by the repeat that it holds, since the letters do not decide its number. `search` asks what an addition at the right passes
 pub data Query : Type 0 where
   howMany whichLongest : Query
   addition : End → ℕ → Query
   removal : End → Query
   theLink theInner : Word → Query
   look : Word → Query
+  search : ℕ → Query
 
 -- what is answered: a refusal's number; a number; a length and a place; the repeats that an addition brings in, and the count after it; the letter
 -- and the repeats that a removal takes out, and the count after it; a row, by what it holds; absent
@@ -48,6 +50,7 @@ answer σ k s (removal e) =
     unlessRefused (refusal σ (viewOf k s) (remove e)) (goesOut (letterAt e s) (newIn σ (removed e s) s) (count σ (removed e s)))
 answer σ k s (theLink w) = cond (isNode σ s (spelt w)) (row (linkOf σ (spelt w))) (refused 7)
 answer σ k s (theInner w) = cond (isNode σ s (spelt w)) (row (innerOf (spelt w))) (refused 7)
+answer σ k s (search c) = unlessRefused (refusal σ (viewOf k s) (add atRight c)) (number (searchSteps σ c s))
 answer σ k s (look w) = unlessRefused (refusal σ (viewOf k s) (ask (find w))) (cond (member w (palindromes σ s)) (row (spelt w)) absent)
 
 -- a line of a table: the partner rule, the letters, the least and the greatest capacity for which the answer is claimed, what is asked, and the answer

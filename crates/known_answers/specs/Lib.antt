@@ -1,3 +1,4 @@
 pub mod KnownAnswer
 pub mod Starred
 pub mod Inverted
+pub mod Searches

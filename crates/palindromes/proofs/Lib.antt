@@ -17,4 +17,5 @@ pub mod Answers
 pub mod Lengths
 pub mod Listing
 pub mod Search
+pub mod SearchSteps
 pub mod Readings

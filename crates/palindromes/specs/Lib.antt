@@ -5,6 +5,7 @@ pub mod Place
 pub mod Record
 pub mod End
 pub mod Node
+pub mod SearchSteps
 pub mod Eertree
 pub mod Bed
 pub mod Fasta
