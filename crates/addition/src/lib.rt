@@ -39,10 +39,10 @@ pub fn add(b: &mut [u8], side: Side, c: u8, p: u8) -> Added
 {
     let growth = growth::find(b, side, c, p);
     match growth {
-        Growth::Fresh(row) => Added::New(insertion::insert(b, side, c, row)),
-        Growth::Stood(q) => {
+        Growth::Fresh(row, passed) => Added::New(insertion::insert(b, side, c, row), passed),
+        Growth::Stood(q, passed) => {
             add_known(b, side, c, q);
-            Added::Known
+            Added::Known(passed)
         }
     }
 }

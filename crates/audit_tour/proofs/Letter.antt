@@ -217,10 +217,10 @@ module _ {b marks carried : Word} {k : ℕ} {t : Tour} (s : Reading b marks carr
           ends atRight = rw (x .right-is) (right-after (readIn b k) d u f v (s .toured .ends atRight .row-holds) a)
 
     -- the walk finds a row to grow, or none
-    module _ {o : Walked} (m : Meets b (lettersIn b) k d (ruleOf b d) (t .row) o) where
+    module _ {n : ℕ} {o : Walked} (m : Meets b (lettersIn b) k d (ruleOf b d) (t .row) n o) where
       found : Found (ruleOf b) (metIn marks) (nodeIn b) (readIn b k) d o
       unfolding longestAt
-      found = meets-longest b (s .toured .covers) (rule-inverse (readingIn b)) (lettersIn b) k d (omega (arith, letters-more)) (t .row) o (s .toured .ends atRight .row-used) (s .toured .ends atRight .row-holds) m
+      found = meets-longest b (s .toured .covers) (rule-inverse (readingIn b)) (lettersIn b) k d (omega (arith, letters-more)) (t .row) n o (s .toured .ends atRight .row-used) (s .toured .ends atRight .row-holds) m
 
       pub tour-grows : (u : ℕ) → o ≡ At u → Grows b marks k d u
       tour-grows u f =
@@ -284,17 +284,17 @@ module _ {b marks carried : Word} {k : ℕ} {t : Tour} (s : Reading b marks carr
         framed : (v : Word) → nodeIn b u ≡ spelt v → spelt (longestSuffix (ruleOf b) (v ++ (d ∷ []))) ≡ linkOf (ruleOf b) (spelt (around (ruleOf b) d (nodeIn b u)))
         framed v f = sym (ap (λ (y : Node). linkOf (ruleOf b) (spelt (around (ruleOf b) d y))) f ∙ link-of-framed (ruleOf b) d v)
 
-        walked : (v : Word) → nodeIn b u ≡ spelt v → (o : Walked) → Meets b (lettersIn b) k d (ruleOf b d) (linkIn b u) o → Found (ruleOf b) (metIn marks) (nodeIn b) v d o
-        walked v f o m = meets-link b (s .toured .covers) (rule-inverse (readingIn b)) (lettersIn b) k d (omega (arith, letters-more)) u o v (w .met) f (word-ends v f) m
+        walked : (v : Word) → nodeIn b u ≡ spelt v → (n : ℕ) (o : Walked) → Meets b (lettersIn b) k d (ruleOf b d) (linkIn b u) n o → Found (ruleOf b) (metIn marks) (nodeIn b) v d o
+        walked v f n o m = meets-link b (s .toured .covers) (rule-inverse (readingIn b)) (lettersIn b) k d (omega (arith, letters-more)) u n o v (w .met) f (word-ends v f) m
 
         stepped : (v : Word) → nodeIn b u ≡ spelt v → Stepped b (lettersIn b) k d (ruleOf b d) (linkIn b u) x
             → (metIn marks x ≡ true) × (nodeIn b x ≡ linkOf (ruleOf b) (spelt (around (ruleOf b) d (nodeIn b u))))
-        stepped v f (grown y m j) =
-            let g : (metIn marks y ≡ true) × (longestSuffix (ruleOf b) (v ++ (d ∷ [])) ≡ around (ruleOf b) d (nodeIn b y)) = walked v f (At y) m in
+        stepped v f (grown y n m j) =
+            let g : (metIn marks y ≡ true) × (longestSuffix (ruleOf b) (v ++ (d ∷ [])) ≡ around (ruleOf b) d (nodeIn b y)) = walked v f n (At y) m in
             let o = s .toured .covers .edge-there y d (g .0) (letter-next (w .next)) (subst (λ (x : Word). NodeOf (ruleOf b) (readIn b k) (spelt x)) (g .1) (link-stands-read v f)) in
             rw j (o .0, o .1 ∙ ap spelt (sym (g .1)) ∙ framed v f)
-        stepped v f (ended m j) =
-            let g : longestSuffix (ruleOf b) (v ++ (d ∷ [])) ≡ [] = walked v f Nothing m in
+        stepped v f (ended n m j) =
+            let g : longestSuffix (ruleOf b) (v ++ (d ∷ [])) ≡ [] = walked v f n Nothing m in
             rw j (met-root marks 1 (omega arith), node-one b ∙ ap spelt (sym g) ∙ framed v f)
 
         by : (y : Node) → nodeIn b u ≡ y → (metIn marks x ≡ true) × (nodeIn b x ≡ linkOf (ruleOf b) (spelt (around (ruleOf b) d (nodeIn b u))))

@@ -128,8 +128,9 @@ pub fn advance(
 {
     let d = standing(b, f, Side::Right, k);
     let want = partner_in(partners, d);
-    let found = walk::walk(b, f, Side::Right, k, tour.row, d, want);
-    match found {
+    let search = walk::walk(b, f, Side::Right, k, tour.row, d, want);
+    let met = search.met;
+    match met {
         Walked::At(u) => enter(b, f, marks, carried, k, tour, u, d, want),
         Walked::Nothing => {
             let left = reach_at(tour, Side::Left);

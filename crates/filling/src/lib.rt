@@ -26,7 +26,7 @@ pub fn fill(store: &mut [u8], side: Side, letters: &[u8]) -> Added
     ensures last { λ a. ⌜ LastBrings (endOf side) (now (letters .entry)) (now (store .entry)) a ⌝ }
 {
     let partners = table(header::reading(store));
-    let mut last = Added::Known;
+    let mut last = Added::Known(0);
     let mut i = 0;
     while i < letters.len() {
         let c = letters[i];

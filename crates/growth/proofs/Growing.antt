@@ -1,5 +1,5 @@
 -- What a letter makes at an end of a good store. The walk from the end's row, for the letter as it is read towards the end, meets the row around which
--- the letter makes the longest palindrome (`met`). That palindrome stood before exactly if the row's edge by the letter leads on (`found-new`, `found-old`); where the walk meets no row there
+-- the letter makes the longest palindrome (`met`), past as many others as the search passes candidates (`passed`). That palindrome stood before exactly if the row's edge by the letter leads on (`found-new`, `found-old`); where the walk meets no row there
 -- is none (`found-none`). Of a new palindrome the link is found by a second walk (`link-single`, `link-stepped`), and its length, inner row and outer letter follow (`row-for`).
 -- Rests on `Found`, `Towards` and `Reading` of walk, on the laws of a good store (`Rows` of transitions) and on the growth of palindromes.
 use Prim.Native.Nat.{ℕ, suc, _+_}
@@ -17,6 +17,7 @@ use Rattle.palindromes.specs.Place.{Suffix, Stands, stands}
 use Rattle.palindromes.specs.Record.{longestSuffix}
 use Rattle.palindromes.specs.End.{End, atLeft, atRight}
 use Rattle.palindromes.specs.Node.{Node, imaginary, spelt, lengthOf, innerOf, around}
+use Rattle.palindromes.specs.SearchSteps.{searchSteps}
 use Rattle.palindromes.proofs.Tests.{not-true-false, false-not-true, decided}
 use Rattle.palindromes.proofs.Words.{suffix-append, suffix-trans, suffix-snoc-back, suffix-stands}
 use Rattle.palindromes.proofs.Places.{stands-true, stands-is, stands-empty}
@@ -38,14 +39,14 @@ use Rattle.walk.specs.Replay.{lettersTowards, letterTowards}
 use Rattle.walk.specs.declared.frame.Frame.{Frame}
 use Rattle.walk.specs.declared.Walked.{Walked}
 use Rattle.walk.specs.declared.Walked.the-variants.{At, Nothing}
-use Rattle.walk.proofs.Found.{meets-longest, meets-link}
+use Rattle.walk.proofs.Found.{meets-longest, meets-steps, meets-link}
 use Rattle.walk.proofs.Towards.{longest-towards, longest-towards-added, stands-towards}
 use Rattle.walk.proofs.Stores.{framed-letters, framed-rule}
 use Rattle.walk.proofs.Reading.{covers-read, read-length}
 use Rattle.transitions.specs.Rows.{rowOf}
 use Rattle.transitions.specs.Addition.{longestAfter, bringsIn}
 use Rattle.transitions.proofs.Rows.{covers, edges-end, row-of, row-of-empty, edge-row, length-row}
-use Rattle.growth.specs.Steps.{readAs, made, linkRow, Met, RowFor, StoodIs}
+use Rattle.growth.specs.Steps.{readAs, made, linkRow, Met, Passed, RowFor, StoodIs}
 
 -- ---- words
 
@@ -85,16 +86,23 @@ module _ {b : Word} (g : Good b) (e : End) where
   read-all : take (sizeIn b) (lettersTowards b e) ≡ lettersTowards b e
   read-all = take-all (sizeIn b) (lettersTowards b e) (omega (arith, read-length g e))
 
+  -- the end's row holds the longest palindrome that ends them
+  end-longest : nodeIn b (endRow b e) ≡ spelt (longestSuffix (ruleOf b) (take (sizeIn b) (lettersTowards b e)))
+  end-longest = g .ends e .holds ∙ ap spelt (longest-towards (ruleOf b) (rule-inverse (readingIn b)) e (lettersIn b) ∙ sym (ap (longestSuffix (ruleOf b)) read-all))
+
   -- ---- the walks
 
   -- the walk from the end's row meets the row around which the next letter makes the longest palindrome
-  pub met : (d : ℕ) (o : Walked) → Meets b (lettersTowards b e) (sizeIn b) d (ruleOf b d) (endRow b e) o → Met b e d o
-  met d o m =
-      let h = g .ends e in
-      let same : longestSuffix (ruleOf b) (take (sizeIn b) (lettersTowards b e)) ≡ longestSuffix (ruleOf b) (lettersTowards b e) = ap (longestSuffix (ruleOf b)) read-all in
+  pub met : (d n : ℕ) (o : Walked) → Meets b (lettersTowards b e) (sizeIn b) d (ruleOf b d) (endRow b e) n o → Met b e d o
+  met d n o m =
       subst (λ (q : Word). Found (ruleOf b) (usedIn b) (nodeIn b) q d o) read-all
-      (meets-longest b (covers-read g e) (rule-inverse (readingIn b)) (lettersTowards b e) (sizeIn b) d (omega (arith, read-length g e)) (endRow b e) o (h .used)
-      (h .holds ∙ ap spelt (longest-towards (ruleOf b) (rule-inverse (readingIn b)) e (lettersIn b) ∙ sym same)) m)
+      (meets-longest b (covers-read g e) (rule-inverse (readingIn b)) (lettersTowards b e) (sizeIn b) d (omega (arith, read-length g e)) (endRow b e) n o (g .ends e .used) end-longest m)
+
+  -- and passes as many rows as the search passes candidates
+  pub passed : (d n : ℕ) (o : Walked) → Meets b (lettersTowards b e) (sizeIn b) d (ruleOf b d) (endRow b e) n o → Passed b e d n
+  passed d n o m =
+      subst (λ (q : Word). n ≡ searchSteps (ruleOf b) d q) read-all
+      (meets-steps b (covers-read g e) (rule-inverse (readingIn b)) (lettersTowards b e) (sizeIn b) d (omega (arith, read-length g e)) (endRow b e) n o (g .ends e .used) end-longest m)
 
   module _ (d u : ℕ) (l : isLetter d ≡ true) (h : Met b e d (At u)) where
     -- what the letter makes is a palindrome, and ends what is then read
@@ -130,13 +138,13 @@ module _ {b : Word} (g : Good b) (e : End) where
           (m, stands-towards (ruleOf b) (rule-inverse (readingIn b)) e m .1 (link-stood (ruleOf b) (lettersTowards b e) d y (suffix-stands around-word)))
 
       step-link : (q : ℕ) → Stepped b (lettersTowards b e) (sizeIn b) d (ruleOf b d) (linkIn b u) q → q ≡ rowOf b (spelt (longestSuffix (ruleOf b) (w ++ (d ∷ []))))
-      step-link q (grown v m k) =
-          let i = meets-link b (covers-read g e) (rule-inverse (readingIn b)) (lettersTowards b e) (sizeIn b) d (omega (arith, read-length g e)) u (At v) w (h .0) f word-ends m in
-          let n : NodeOf (ruleOf b) (lettersIn b) (spelt (around (ruleOf b) d (nodeIn b v))) = subst (λ (x : Word). NodeOf (ruleOf b) (lettersIn b) (spelt x)) (i .1) link-node in
-          cc (k, edge-row g v (i .0) d l n, i .1)
-      step-link q (ended m k) =
+      step-link q (grown v n m k) =
+          let i = meets-link b (covers-read g e) (rule-inverse (readingIn b)) (lettersTowards b e) (sizeIn b) d (omega (arith, read-length g e)) u n (At v) w (h .0) f word-ends m in
+          let stood : NodeOf (ruleOf b) (lettersIn b) (spelt (around (ruleOf b) d (nodeIn b v))) = subst (λ (x : Word). NodeOf (ruleOf b) (lettersIn b) (spelt x)) (i .1) link-node in
+          cc (k, edge-row g v (i .0) d l stood, i .1)
+      step-link q (ended n m k) =
           let i : longestSuffix (ruleOf b) (w ++ (d ∷ [])) ≡ [] =
-          meets-link b (covers-read g e) (rule-inverse (readingIn b)) (lettersTowards b e) (sizeIn b) d (omega (arith, read-length g e)) u Nothing w (h .0) f word-ends m in
+          meets-link b (covers-read g e) (rule-inverse (readingIn b)) (lettersTowards b e) (sizeIn b) d (omega (arith, read-length g e)) u n Nothing w (h .0) f word-ends m in
           cc (k, i, row-of-empty g)
 
     pub link-stepped : (u ≡ 0 → ⊥) → (q : ℕ) → Stepped b (lettersTowards b e) (sizeIn b) d (ruleOf b d) (linkIn b u) q

@@ -5,11 +5,12 @@ use mathlib.Core.Bool.{true, false}
 use Rattle.palindromes.specs.Word.{Word}
 use Rattle.palindromes.specs.End.{End, atLeft, atRight, letterAt}
 use Rattle.palindromes.specs.Node.{spelt, lengthOf, linkOf, innerOf, around}
+use Rattle.palindromes.specs.SearchSteps.{searchSteps}
 use Rattle.store.specs.Layout.{usedIn}
 use Rattle.store.specs.Good.{ruleOf, nodeIn}
 use Rattle.store.specs.Lengths.{Stored}
 use Rattle.store.specs.declared.rows.Row.{Row}
-use Rattle.walk.specs.Replay.{lettersTowards}
+use Rattle.walk.specs.Replay.{lettersTowards, stepsTowards}
 use Rattle.walk.specs.declared.Walked.{Walked}
 use Rattle.walk.specs.Walk.{Found}
 use Rattle.transitions.specs.Rows.{rowOf}
@@ -34,6 +35,10 @@ linkRow b v = rowOf b (linkOf (ruleOf b) (spelt v))
 abbrev pub Met : Word → End → ℕ → Walked → Type 0
 Met b e d o = Found (ruleOf b) (usedIn b) (nodeIn b) (lettersTowards b e) d o
 
+-- as many candidates as the search for the letter d passes, read next towards an end
+abbrev pub Passed : Word → End → (d n : ℕ) → Type 0
+Passed b e d n = n ≡ searchSteps (ruleOf b) d (lettersTowards b e)
+
 -- what the row of a new palindrome v is to say
 pub record RowFor (b v : Word) (row : Row) : Type 0 where
   pub length-is : row .length ≡ lengthOf (spelt v)
@@ -54,7 +59,7 @@ pub record StoodIs (b : Word) (e : End) (c q : ℕ) : Type 0 where
   pub used : usedIn b q ≡ true
   pub holds : nodeIn b q ≡ spelt (longestAfter e c b)
 
--- what the letter c makes at an end
+-- what the letter c makes at an end, and how many candidates the search for it passes
 abbrev pub Grown : Word → End → ℕ → Growth → Type 0
-Grown b e c (Fresh row) = FreshIs b e c row
-Grown b e c (Stood q) = StoodIs b e c q
+Grown b e c (Fresh row n) = FreshIs b e c row × (n ≡ stepsTowards b e c)
+Grown b e c (Stood q n) = StoodIs b e c q × (n ≡ stepsTowards b e c)

@@ -5,6 +5,7 @@ use store::lengths;
 use store::letters::Side;
 use store::rows;
 use store::rows::Row;
+use walk::Search;
 use walk::Walked;
 use walk::frame;
 ghost use mathlib.Core.Path.{_≡_};
@@ -12,13 +13,13 @@ ghost use mathlib.Core.Bool.{true};
 ghost use Rattle.palindromes.specs.Word.{isLetter};
 ghost use Rattle.store.specs.Good.{ruleOf, Good};
 ghost use Rattle.store.specs.Side.{endOf};
-ghost use Rattle.growth.specs.Steps.{readAs, made, linkRow, Met, RowFor, Grown};
+ghost use Rattle.growth.specs.Steps.{readAs, made, linkRow, Met, Passed, RowFor, Grown};
 
 // What a letter makes at an end: a palindrome that stood nowhere, with the row to write for it, or
-// one that stood before, in the row that is named.
+// one that stood before, in the row that is named; and how many rows the walk for it passed.
 pub enum Growth {
-    Fresh(Row),
-    Stood(usize),
+    Fresh(Row, usize),
+    Stood(usize, usize),
 }
 
 // The letter that is read towards a side where c joins it, by c's partner p. With the two exchanged it is
@@ -34,10 +35,10 @@ fn read_as(side: Side, c: u8, p: u8) -> u8
 
 // The row around which the letter d, read next towards a side, makes the longest palindrome; `want` is
 // its partner.
-fn meet(b: &[u8], side: Side, d: u8, want: u8) -> Walked
+fn meet(b: &[u8], side: Side, d: u8, want: u8) -> Search
     requires { ⌜ Good (now b) ⌝ }
     requires { ⌜ want ≡ ruleOf (now b) d ⌝ }
-    ensures { λ r. ⌜ Met (now (b .entry)) (endOf side) d r ⌝ }
+    ensures { λ r. ⌜ Met (now (b .entry)) (endOf side) d (r .met) × Passed (now (b .entry)) (endOf side) d (r .passed) ⌝ }
 {
     let f = frame::frame_of(b);
     let start = header::end_row(b, side);
@@ -79,16 +80,17 @@ pub fn find(b: &[u8], side: Side, c: u8, p: u8) -> Growth
 {
     let d = read_as(side, c, p);
     let want = read_as(side, p, c);
-    let met = meet(b, side, d, want);
+    let search = meet(b, side, d, want);
+    let met = search.met;
     match met {
         Walked::At(u) => {
             // no edge leads to the imaginary string: its number says that there is none
             let q = rows::edge_of(b, u, d);
             if q == Row::IMAGINARY {
-                return Growth::Fresh(row_around(b, side, d, want, u));
+                return Growth::Fresh(row_around(b, side, d, want, u), search.passed);
             }
-            Growth::Stood(q)
+            Growth::Stood(q, search.passed)
         }
-        Walked::Nothing => Growth::Stood(Row::EMPTY),
+        Walked::Nothing => Growth::Stood(Row::EMPTY, search.passed),
     }
 }

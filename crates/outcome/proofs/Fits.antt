@@ -5,9 +5,11 @@ use native.Mathlib.Omega.{arith}
 use mathlib.Core.Path.{_≡_, refl, ap}
 use mathlib.Core.Bool.{Bool, true, false, cond}
 use mathlib.Core.List.{List, [], _∷_, cons-ne-nil}
+use lib.Dec.{eqb}
 use lib.ListN.{length, getD, length-append}
 use Rattle.palindromes.specs.Word.{Word, isLetter, allLetters, keep, member}
-use Rattle.palindromes.specs.Reading.{Reading}
+use Rattle.palindromes.specs.Palindrome.{plain}
+use Rattle.palindromes.specs.Reading.{Reading, asPlain, readingNumber}
 use Rattle.palindromes.specs.Record.{palindromes, count, least, longestPlace}
 use Rattle.palindromes.specs.End.{End, atLeft, atRight, letterAt}
 use Rattle.palindromes.specs.Node.{Node, imaginary, spelt, lengthOf, spellingOf}
@@ -16,9 +18,11 @@ use Rattle.palindromes.proofs.Tests.{both-true}
 use Rattle.palindromes.proofs.Order.{longest-length-fits, longest-place-is}
 use Rattle.palindromes.proofs.Palindromes.{count-length}
 use Rattle.palindromes.proofs.Letters.{letter-byte}
+use Rattle.palindromes.specs.SearchSteps.{searchSteps, reportedSteps}
+use Rattle.palindromes.proofs.SearchSteps.{steps-few}
 use Rattle.bed.proofs.Listing.{listing-most}
 use Rattle.eertree.proofs.Rows.{reachOf, row-reach-most}
-use Rattle.store.specs.Layout.{usedIn, lettersIn}
+use Rattle.store.specs.Layout.{readingIn, usedIn, lettersIn}
 use Rattle.store.specs.Good.{ruleOf, nodeIn, Good}
 use Rattle.store.proofs.Sizes.{letters-length}
 use Rattle.transitions.specs.Rows.{rowOf, freeRow}
@@ -110,13 +114,24 @@ module _ {b : Word} (g : Good b) where
   free-small : (e : End) (c : ℕ) (l : Lent) → refusal (ruleOf b) (viewIn b l) (add e c) ≡ 0 → freeRow b < 65536
   free-small e c l z = row-small g (freeRow b) (free-below g (omega (arith, add-allowed b l e c z .1, letters-length (g .sized))))
 
-  added-fits : (e : End) (c : ℕ) (l : Lent) → refusal (ruleOf b) (viewIn b l) (add e c) ≡ 0 → Fits (addedReply (addedOf (bringsIn e c b) (rowAfter e c b)))
+  -- a search passes few, so what is reported of it is small
+  pub reported-small : (e : End) (c : ℕ) → reportedSteps (readingIn b) e c (lettersIn b) < 65536
+  unfolding reportedSteps
+  reported-small atLeft c = omega arith
+  reported-small atRight c = go (eqb (readingIn b) (readingNumber asPlain))
+    where
+      go : (t : Bool) → cond t (searchSteps plain c (lettersIn b)) 0 < 65536
+      go true = omega (arith, steps-few plain (λ x. refl) c (lettersIn b), few)
+      go false = omega arith
+
+  added-fits : (e : End) (c : ℕ) (l : Lent) → refusal (ruleOf b) (viewIn b l) (add e c) ≡ 0
+      → Fits (addedReply (addedOf (bringsIn e c b) (rowAfter e c b) (reportedSteps (readingIn b) e c (lettersIn b))))
   unfolding addedReply rowAfter
   added-fits e c l z = go (bringsIn e c b)
     where
-      go : (t : Bool) → Fits (addedReply (addedOf t (cond t (freeRow b) (rowOf b (spelt (longestAfter e c b))))))
-      go true = fits _ (free-small e c l z) (omega arith) (omega arith)
-      go false = fits _ (omega arith) (omega arith) (omega arith)
+      go : (t : Bool) → Fits (addedReply (addedOf t (cond t (freeRow b) (rowOf b (spelt (longestAfter e c b)))) (reportedSteps (readingIn b) e c (lettersIn b))))
+      go true = fits _ (free-small e c l z) (reported-small e c) (omega arith)
+      go false = fits _ (omega arith) (reported-small e c) (omega arith)
 
   removed-fits : (e : End) → Fits (removedReply (removedOf (takesOut e b) (letterAt e (lettersIn b)) (rowOf b (spelt (longestBefore e b)))))
   unfolding removedReply

@@ -5,10 +5,10 @@ use mathlib.Core.Bool.{Bool, true, false, cond}
 use Rattle.outcome.specs.Reply.{accepted}
 use Rattle.outcome.specs.Answers.{addedOf, addedReply, removedOf, removedReply, foundOf, foundReply, foundAnswer}
 
-pub reply-of-added : (new : Bool) (row : ℕ) → addedReply (addedOf new row) ≡ accepted new (cond new row 0) 0 0
+pub reply-of-added : (new : Bool) (row steps : ℕ) → addedReply (addedOf new row steps) ≡ accepted new (cond new row 0) steps 0
 unfolding addedReply
-reply-of-added true row = refl
-reply-of-added false row = refl
+reply-of-added true row steps = refl
+reply-of-added false row steps = refl
 
 pub reply-of-removed : (gone : Bool) (letter row : ℕ) → removedReply (removedOf gone letter row) ≡ accepted gone (cond gone row 0) letter 0
 unfolding removedReply

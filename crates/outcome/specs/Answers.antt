@@ -9,15 +9,15 @@ use Rattle.outcome.specs.declared.answers.Removed.the-variants.{Gone, Ke
 use Rattle.outcome.specs.declared.answers.Found.{Found}
 use Rattle.outcome.specs.declared.answers.Found.the-variants.{At, Absent}
 
--- 01 "addition": a repeat comes in, and has this row, or none does
-abbrev pub addedOf : (new : Bool) (row : ℕ) → Added
-addedOf true row = New row
-addedOf false row = Known
+-- 01 "addition": a repeat comes in, and has this row, or none does; 02 (xiii) the number that the search passed, in either case
+abbrev pub addedOf : (new : Bool) (row steps : ℕ) → Added
+addedOf true row steps = New row steps
+addedOf false row steps = Known steps
 
--- 01 "1 and the new row, or 0 and row 0", with the number 0
+-- 01 "1 and the new row, or 0 and row 0", with the number 0; 02 (xiii) "the adding call reports that number", first
 unfoldable pub addedReply : Added → Reply
-addedReply (New row) = accepted true row 0 0
-addedReply Known = accepted false 0 0 0
+addedReply (New row steps) = accepted true row steps 0
+addedReply (Known steps) = accepted false 0 steps 0
 
 -- 01 "removal": this letter goes, and with it a repeat that had this row, or none
 abbrev pub removedOf : (gone : Bool) (letter row : ℕ) → Removed

@@ -13,7 +13,8 @@ use Rattle.palindromes.specs.End.{letterAt}
 use Rattle.palindromes.specs.Node.{spelt, lengthOf, linkOf, innerOf, spellingOf}
 use Rattle.palindromes.specs.Bed.{listing}
 use Rattle.palindromes.specs.Refusal.{Question, theLength, theCount, theLongest, theLongestLength, theLongestAt, theLetter, theRow, spell, find, list, Call, opening, add, remove, turn, ask, View, refusal}
-use Rattle.store.specs.Layout.{capacityIn, usedIn, lettersIn}
+use Rattle.palindromes.specs.SearchSteps.{reportedSteps}
+use Rattle.store.specs.Layout.{capacityIn, readingIn, usedIn, lettersIn}
 use Rattle.store.specs.Good.{ruleOf, nodeIn, Good}
 use Rattle.transitions.specs.Rows.{rowOf}
 use Rattle.transitions.specs.Opening.{opened}
@@ -89,7 +90,8 @@ lentAfter (list name) b l =
 -- an accepted call. 01 "Questions and changes"; a question changes no byte of the store
 unfoldable pub acceptedOutcome : Call → Word → Lent → Outcome
 acceptedOutcome (opening way k) b l = changed (accepted false 0 0 0) (opened (readingNumber way) k b) l
-acceptedOutcome (add e c) b l = changed (addedReply (addedOf (bringsIn e c b) (rowAfter e c b))) (afterAddition e c b) l
+acceptedOutcome (add e c) b l =
+    changed (addedReply (addedOf (bringsIn e c b) (rowAfter e c b) (reportedSteps (readingIn b) e c (lettersIn b)))) (afterAddition e c b) l
 acceptedOutcome (remove e) b l =
     changed (removedReply (removedOf (takesOut e b) (letterAt e (lettersIn b)) (rowOf b (spelt (longestBefore e b))))) (afterRemoval e b) l
 acceptedOutcome (turn way) b l = changed (accepted false 0 0 0) (turned (readingNumber way) b) l

@@ -7,10 +7,11 @@ ghost use Prim.Native.Nat.{_<_};
 ghost use Rattle.outcome.specs.Reply.{packed};
 ghost use Rattle.outcome.specs.Answers.{addedReply, removedReply};
 
-// What an addition answers: the row of the palindrome that came in, or that none did.
+// What an addition answers: the row of the palindrome that came in, or that none did, and how many
+// candidates were passed in the search for it.
 pub enum Added {
-    New(usize),
-    Known,
+    New(usize, usize),
+    Known(usize),
 }
 
 // What a removal answers: the letter, and the row of the palindrome that went, if one did.
@@ -27,12 +28,12 @@ pub enum Found {
 
 // The answer of an addition.
 pub fn answer_added(added: Added) -> u64
-    requires { ⌜ addedReply added .row < 65536 ⌝ }
+    requires { ⌜ (addedReply added .row < 65536) × (addedReply added .first < 65536) ⌝ }
     ensures { λ r. ⌜ r ≡ packed (addedReply added) ⌝ }
 {
     match added {
-        Added::New(row) => pack(true, row, 0, 0),
-        Added::Known => pack(false, 0, 0, 0),
+        Added::New(row, passed) => pack(true, row, passed, 0),
+        Added::Known(passed) => pack(false, 0, passed, 0),
     }
 }
 

@@ -13,6 +13,7 @@ use Rattle.palindromes.specs.Reading.{ruleIn}
 use Rattle.palindromes.specs.Place.{Stands, stands}
 use Rattle.palindromes.specs.End.{End, added, longestAt}
 use Rattle.palindromes.specs.Node.{spelt}
+use Rattle.palindromes.specs.SearchSteps.{reportedSteps}
 use Rattle.palindromes.specs.Refusal.{add}
 use Rattle.palindromes.proofs.Tests.{both-true, decided, same-true, same-is, same-refl, false-not-true, not-true-false}
 use Rattle.palindromes.proofs.Words.{stands-or-not}
@@ -20,6 +21,7 @@ use Rattle.palindromes.proofs.Change.{new-is-longest}
 use Rattle.palindromes.proofs.Places.{stands-true, stands-is}
 use Rattle.palindromes.proofs.NewIn.{new-in-added, gone-in-added}
 use Rattle.palindromes.proofs.Readings.{rule-inverse}
+use Rattle.store.specs.Layout.{readingIn, lettersIn}
 use Rattle.store.specs.Good.{Good}
 use Rattle.transitions.specs.Rows.{rowOf, freeRow}
 use Rattle.transitions.specs.Addition.{longestAfter, bringsIn, rowAfter as rowAfterAddition, afterAddition}
@@ -39,9 +41,6 @@ use Rattle.traces.proofs.Shared.{moved, number-zero, zero-first}
 renamed-rows : (m k : ℕ) (s b : Word) (row row′ : Word → ℕ) → ((w : Word) → row w ≡ row′ w) → State m k s row b → State m k s row′ b
 renamed-rows m k s b row row′ e st =
     record { good = st .good; capacity = st .capacity; reading = st .reading; letters = st .letters; rows = λ w p h. sym (e w) ∙ st .rows w p h; bytes = st .bytes }
-
-zero-row : (t : Bool) (m : ℕ) {r : Reply} → r ≡ accepted t (cond t m 0) 0 0 → r .flag ≡ false → r .row ≡ 0
-zero-row t m e f = zero-first t m 0 e f
 
 -- a reply that says 1 gives the longest repeat at its end the row that it answers
 answered-row : (m : ℕ) (s : Word) (e : End) (c : ℕ) (r : Reply) (b : Word) (row : Word → ℕ) → r .flag ≡ true → r .row ≡ rowStep m s (add e c) r b row (longestAt (ruleIn m) e (added e c s))
@@ -92,11 +91,21 @@ module _ (m k : ℕ) (s : Word) (row : Word → ℕ) (b : Word) (st : State m k 
     unfolding bringsIn
     brings-is = ap₂ (λ (u t : Word). not (stands u t)) longest-is (st .letters)
 
-    pub reply-is : room ≡ true → o .reply ≡ accepted (bringsIn e c b) (cond (bringsIn e c b) (freeRow b) 0) 0 0
+    -- what is reported of the search
+    abbrev pub reported : ℕ
+    reported = reportedSteps m e c s
+
+    steps-is : reportedSteps (readingIn b) e c (lettersIn b) ≡ reported
+    steps-is = ap₂ (λ (i : ℕ) (t : Word). reportedSteps i e c t) (st .reading) (st .letters)
+
+    pub reply-is : room ≡ true → o .reply ≡ accepted (bringsIn e c b) (cond (bringsIn e c b) (freeRow b) 0) reported 0
     unfolding acceptedOutcome changed rowAfterAddition
-    reply-is h = ap (λ (x : Outcome). x .reply) (add-carried h) ∙ reply-of-added (bringsIn e c b) (rowAfterAddition e c b) ∙ go (bringsIn e c b)
+    reply-is h =
+        ap (λ (x : Outcome). x .reply) (add-carried h)
+        ∙ reply-of-added (bringsIn e c b) (rowAfterAddition e c b) (reportedSteps (readingIn b) e c (lettersIn b))
+        ∙ ap₂ (λ (q n : ℕ). accepted (bringsIn e c b) q n 0) (go (bringsIn e c b)) steps-is
       where
-        go : (t : Bool) → accepted t (cond t (cond t (freeRow b) (rowOf b (spelt (longestAfter e c b)))) 0) 0 0 ≡ accepted t (cond t (freeRow b) 0) 0 0
+        go : (t : Bool) → cond t (cond t (freeRow b) (rowOf b (spelt (longestAfter e c b)))) 0 ≡ cond t (freeRow b) 0
         go true = refl
         go false = refl
 
@@ -194,6 +203,10 @@ module _ (m k : ℕ) (s : Word) (row : Word → ℕ) (b : Word) (st : State m k 
     unfolding accepted
     flag-is h = ap (λ (r : Reply). r .flag) (reply-is h)
 
+    first-is : room ≡ true → o .reply .first ≡ reported
+    unfolding accepted
+    first-is h = ap (λ (r : Reply). r .first) (reply-is h)
+
     pub add-claim : Added m k s (rowStep m s (add e c) (o .reply) (o .store) row) e c (o .reply)
     add-claim =
         record {
@@ -203,10 +216,11 @@ module _ (m k : ℕ) (s : Word) (row : Word → ℕ) (b : Word) (st : State m k 
           moves = λ z. let h = only z in moved m s (added e c s) v (o .reply .flag) (flag-is h ∙ brings-is) (new-in-added (ruleIn m) (rule-inverse m) e s c) (gone-in-added (ruleIn m) e s c);
           new-row = new-row;
           no-row = no-row;
+          steps = λ z. first-is (only z);
         }
       where
         zero-number : room ≡ true → o .reply .number ≡ 0
-        zero-number h = number-zero (bringsIn e c b) (cond (bringsIn e c b) (freeRow b) 0) 0 (reply-is h)
+        zero-number h = number-zero (bringsIn e c b) (cond (bringsIn e c b) (freeRow b) 0) reported (reply-is h)
 
         only : o .reply .number ≡ 0 → room ≡ true
         only z = ⊎-elim (λ h. h) (λ h. absurd (refused-number h z)) (decided room)
@@ -215,7 +229,7 @@ module _ (m k : ℕ) (s : Word) (row : Word → ℕ) (b : Word) (st : State m k 
         new-row f = answered-row m s e c (o .reply) (o .store) row f
 
         no-row : o .reply .flag ≡ false → o .reply .row ≡ 0
-        no-row f = ⊎-elim (λ h. zero-row (bringsIn e c b) (freeRow b) (reply-is h) f) (λ h. no-flag h .1) (decided room)
+        no-row f = ⊎-elim (λ h. zero-first (bringsIn e c b) (freeRow b) reported (reply-is h) f) (λ h. no-flag h .1) (decided room)
 
     -- a repeat that stood keeps its row
     pub add-keeps : (w : Word) → Stands w s → rowStep m s (add e c) (o .reply) (o .store) row w ≡ row w

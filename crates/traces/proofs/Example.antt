@@ -41,7 +41,7 @@ all-sevens zero i = omega arith
 all-sevens (suc n) zero = omega arith
 all-sevens (suc n) (suc i) = all-sevens n i
 
-all-bytes : Bytes sevens
+pub all-bytes : Bytes sevens
 unfolding sevens
 all-bytes i = all-sevens 400 i
 

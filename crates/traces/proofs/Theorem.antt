@@ -17,7 +17,8 @@ use Rattle.palindromes.specs.Refusal.{Question, theRow, find, Call, opening, ad
 use Rattle.palindromes.proofs.Words.{stands-of-empty}
 use Rattle.palindromes.proofs.Readings.{number-below}
 use Rattle.eertree.specs.Covers.{NodeOf}
-use Rattle.store.specs.Layout.{lettersIn}
+use Rattle.palindromes.specs.SearchSteps.{reportedSteps}
+use Rattle.store.specs.Layout.{readingIn, lettersIn}
 use Rattle.store.specs.Good.{ruleOf, Good}
 use Rattle.transitions.specs.Opening.{opened}
 use Rattle.transitions.specs.Rows.{rowOf}
@@ -47,7 +48,7 @@ pub number-of : (n : ℕ) (call : Call) (b : Word) (l : Lent) → unlessRefused 
 unfolding unlessRefused refusedOutcome refusedWith acceptedOutcome changed accepted
 number-of (suc n) call b l = refl
 number-of zero (opening way k) b l = refl
-number-of zero (add e c) b l = ap (λ (r : Reply). r .number) (reply-of-added (bringsIn e c b) (rowAfterAddition e c b))
+number-of zero (add e c) b l = ap (λ (r : Reply). r .number) (reply-of-added (bringsIn e c b) (rowAfterAddition e c b) (reportedSteps (readingIn b) e c (lettersIn b)))
 number-of zero (remove e) b l = ap (λ (r : Reply). r .number) (reply-of-removed (takesOut e b) (letterAt e (lettersIn b)) (rowOf b (spelt (longestBefore e b))))
 number-of zero (turn way) b l = refl
 number-of zero (ask q) b l = refl

@@ -21,6 +21,7 @@ use Rattle.transitions.specs.Removal.{longestBefore, takesOut, afterRemoval}
 use Rattle.transitions.proofs.Rows.{row-of}
 use Rattle.transitions.proofs.Added as Transitions·Added
 use Rattle.transitions.proofs.Undone.{undone, takes-back}
+use Rattle.palindromes.specs.SearchSteps.{reportedSteps}
 use Rattle.outcome.specs.Reply.{Reply, accepted}
 use Rattle.outcome.specs.Outcome.{Lent, Outcome, outcome, acceptedOutcome, changed}
 use Rattle.traces.specs.Claims.{Added}
@@ -75,7 +76,7 @@ module _ (m k : ℕ) (s : Word) (row : Word → ℕ) (b : Word) (st : State m k 
     flag-now : takesOut e (o .store) ≡ bringsIn e c b
     flag-now = ap (takesOut e) stored ∙ takes-back e c (st .good) valid below
 
-    first-reply : o .reply ≡ accepted (bringsIn e c b) (cond (bringsIn e c b) (freeRow b) 0) 0 0
+    first-reply : o .reply ≡ accepted (bringsIn e c b) (cond (bringsIn e c b) (freeRow b) 0) (reportedSteps m e c s) 0
     first-reply = reply-is m k s row b st e c l in-room
 
     second-reply : o′ .reply ≡ accepted (takesOut e (o .store)) (cond (takesOut e (o .store)) (rowOf (o .store) (spelt (longestBefore e (o .store)))) 0) (letterAt e (lettersIn (o .store))) 0

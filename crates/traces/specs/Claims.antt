@@ -14,6 +14,7 @@ use Rattle.palindromes.specs.Place.{Stands, stands, standsOnce}
 use Rattle.palindromes.specs.Record.{palindromes}
 use Rattle.palindromes.specs.End.{End, added, removed, letterAt, longestAt, notAmong, newIn}
 use Rattle.palindromes.specs.Node.{Node, imaginary, spelt, linkOf, innerOf}
+use Rattle.palindromes.specs.SearchSteps.{reportedSteps}
 use Rattle.palindromes.specs.Refusal.{Question, theRow, spell, find, add, remove, turn, ask, refusal}
 use Rattle.eertree.specs.Entries.{IsEertree}
 use Rattle.store.specs.Layout.{capacityIn, readingIn, lettersIn}
@@ -71,7 +72,8 @@ pub record Moved (m : ℕ) (s t v : Word) (flag : Bool) : Type 0 where
   pub back : newIn (ruleIn m) t s ≡ []
 
 -- an addition that answers r: accepted exactly if the letter is valid and the record below full length. The longest repeat at the end, read after it, comes
--- in exactly if it stood nowhere before; then 1 and the row that it has from now on, else 0 and row 0
+-- in exactly if it stood nowhere before; then 1 and the row that it has from now on, else 0 and row 0. 02 (xiii): what it reports of its search is decided by the letters
+-- alone
 pub record Added (m k : ℕ) (s : Word) (row′ : Word → ℕ) (e : End) (c : ℕ) (r : Reply) : Type 0 where
   pub accepted-if : (isLetter c && ltb (length s) k) ≡ true → r .number ≡ 0
   pub only-if : r .number ≡ 0 → (isLetter c && ltb (length s) k) ≡ true
@@ -79,6 +81,7 @@ pub record Added (m k : ℕ) (s : Word) (row′ : Word → ℕ) (e : End) (c : �
   pub moves : r .number ≡ 0 → Moved m s (added e c s) (longestAt (ruleIn m) e (added e c s)) (r .flag)
   pub new-row : r .flag ≡ true → r .row ≡ row′ (longestAt (ruleIn m) e (added e c s))
   pub no-row : r .flag ≡ false → r .row ≡ 0
+  pub steps : r .number ≡ 0 → r .first ≡ reportedSteps m e c s
 
 -- a removal that answers r: accepted exactly if a letter stands, and that is its letter. The longest repeat at the end, read before it, goes exactly if it
 -- stood once only; then 1 and the row that it had, else 0 and row 0

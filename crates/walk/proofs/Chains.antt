@@ -20,8 +20,8 @@ chain-next (root e l) n = absurd (n e)
 chain-next (further l f g) n = (f, g)
 
 -- so the row that a walk along the chain meets lies within the store
-pub meets-fits : {b t : Word} {k d want r u : ℕ} {o : Walked} → Chain b r → Meets b t k d want r o → o ≡ At u → 24 * u + 24 ≤ length b
-meets-fits {u} h (letter e w z) f = let i : u ≡ 0 = cc in omega (arith, chain-fits h)
-meets-fits {u} h (nothing e w z) f = absurd (let i : _≡_ {A = ℕ} 0 1 = cc in omega arith)
-meets-fits {u} h (here {r} n g z) f = let i : u ≡ r = cc in omega (arith, chain-fits h)
-meets-fits {u} h (onward n g m) f = meets-fits (chain-next h n .1) m f
+pub meets-fits : {b t : Word} {k d want r n u : ℕ} {o : Walked} → Chain b r → Meets b t k d want r n o → o ≡ At u → 24 * u + 24 ≤ length b
+meets-fits {u} h (letter e w m z) f = let i : u ≡ 0 = cc in omega (arith, chain-fits h)
+meets-fits {u} h (nothing e w m z) f = absurd (let i : _≡_ {A = ℕ} 0 1 = cc in omega arith)
+meets-fits {u} h (here {r} n g m z) f = let i : u ≡ r = cc in omega (arith, chain-fits h)
+meets-fits {u} h (onward n g m e) f = meets-fits (chain-next h n .1) m f

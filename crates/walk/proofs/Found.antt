@@ -20,6 +20,8 @@ use Rattle.palindromes.specs.Record.{longestSuffix}
 use Rattle.palindromes.specs.Node.{Node, imaginary, spelt, linkOf}
 use Rattle.palindromes.proofs.Tests.{both-true, both-are, false-not-true, decided}
 use Rattle.palindromes.proofs.Words.{suffix-refl, suffix-trans}
+use Rattle.palindromes.specs.SearchSteps.{searchSteps}
+use Rattle.palindromes.proofs.SearchSteps.{stepsFrom, steps-start, steps-imaginary, steps-served, steps-passed}
 use Rattle.palindromes.proofs.Growth.{Walk, Faces, preceded-within, nothing-longest, walk-hit, walk-from-link}
 use Rattle.eertree.specs.Covers.{NodeOf, Covers, withUsed}
 use Rattle.eertree.proofs.Rows.{reachOf, link-reach, row-reach, imaginary-row, link-falls, faces-at, faces-outside}
@@ -110,29 +112,43 @@ module _ {σ : ℕ → ℕ} {s : Word} (b : Word) {used : ℕ → Bool} {node : 
 
   module _ (inv : SelfInverse σ) (t : Word) (k d : ℕ) (l : k ≤ length t) where
     -- the walk for d in a word q that ends the letters read, from a row whose word is shorter than q, or from any if q is all that is read: it finds what is longest behind q with d
-    pub meets-within : (q : Word) → Suffix q (take k t) → (r : ℕ) (o : Walked) → used r ≡ true → Walk σ d q (node r) → (reachOf (node r) ≤ length q) ⊎ (q ≡ take k t)
-        → Meets b t k d (σ d) r o → Found σ used node q d o
-    meets-within q x r o u a i (letter e w z) =
+    pub meets-within : (q : Word) → Suffix q (take k t) → (r n : ℕ) (o : Walked) → used r ≡ true → Walk σ d q (node r) → (reachOf (node r) ≤ length q) ⊎ (q ≡ take k t)
+        → Meets b t k d (σ d) r n o → Found σ used node q d o
+    meets-within q x r n o u a i (letter e w m z) =
         let f = h .row-zero in
         rw z (f .0, rw (f .1) (walk-hit σ inv d q imaginary (subst (Walk σ d q) (ap node e ∙ f .1) a) w))
-    meets-within q x r o u a i (nothing e w z) = rw z (nothing-longest σ d q (subst (Walk σ d q) (ap node e ∙ h .row-zero .1) a) w)
-    meets-within q x r o u a i (here n f z) = rw z (u, walk-hit σ inv d q (node r) a (faces-row t k d q l x r u n a i .0 f))
-    meets-within q x r o u a i (onward n f m) =
-        meets-within q x (linkIn b r) o (h .link-is r u .0)
-        (walk-next h d q r u a λ g. false-not-true f (faces-row t k d q l x r u n a i .1 g))
-        (⊎-elim (λ j. inl (omega (arith, link-falls h r u n))) inr i) m
+    meets-within q x r n o u a i (nothing e w m z) = rw z (nothing-longest σ d q (subst (Walk σ d q) (ap node e ∙ h .row-zero .1) a) w)
+    meets-within q x r n o u a i (here z f m e) = rw e (u, walk-hit σ inv d q (node r) a (faces-row t k d q l x r u z a i .0 f))
+    meets-within q x r n o u a i (onward {m = m} z f g e) =
+        meets-within q x (linkIn b r) m o (h .link-is r u .0)
+        (walk-next h d q r u a λ y. false-not-true f (faces-row t k d q l x r u z a i .1 y))
+        (⊎-elim (λ j. inl (omega (arith, link-falls h r u z))) inr i) g
 
     -- from the row of the longest palindrome that ends the letters read: it finds the longest with d
-    pub meets-longest : (r : ℕ) (o : Walked) → used r ≡ true → node r ≡ spelt (longestSuffix σ (take k t)) → Meets b t k d (σ d) r o → Found σ used node (take k t) d o
-    meets-longest r o u e m = meets-within (take k t) suffix-refl r o u (walk-first σ d (take k t) (node r) e) (inr refl) m
+    pub meets-longest : (r n : ℕ) (o : Walked) → used r ≡ true → node r ≡ spelt (longestSuffix σ (take k t)) → Meets b t k d (σ d) r n o → Found σ used node (take k t) d o
+    meets-longest r n o u e m = meets-within (take k t) suffix-refl r n o u (walk-first σ d (take k t) (node r) e) (inr refl) m
+
+    -- and it passes as many rows as the search passes candidates
+    steps-within : (r n : ℕ) (o : Walked) → used r ≡ true → Walk σ d (take k t) (node r) → Meets b t k d (σ d) r n o → n ≡ stepsFrom σ d (take k t) (node r)
+    steps-within r n o u a (letter e w m z) = m ∙ sym (ap (stepsFrom σ d (take k t)) (ap node e ∙ h .row-zero .1) ∙ steps-imaginary σ d (take k t))
+    steps-within r n o u a (nothing e w m z) = m ∙ sym (ap (stepsFrom σ d (take k t)) (ap node e ∙ h .row-zero .1) ∙ steps-imaginary σ d (take k t))
+    steps-within r n o u a (here z f m e) = m ∙ sym (steps-served σ d (take k t) (node r) (λ y. z (imaginary-row h r u y)) a (faces-row t k d (take k t) l suffix-refl r u z a (inr refl) .0 f))
+    steps-within r n o u a (onward {m = m} z f g e) =
+        let miss : Faces σ d (take k t) (node r) → ⊥ = λ y. false-not-true f (faces-row t k d (take k t) l suffix-refl r u z a (inr refl) .1 y) in
+        let next = steps-within (linkIn b r) m o (h .link-is r u .0) (walk-next h d (take k t) r u a miss) g in
+        e ∙ ap (λ (i : ℕ). i + 1) next ∙ sym (steps-passed σ d (take k t) (node r) (λ y. z (imaginary-row h r u y)) a miss ∙ ap (λ (v : Node). stepsFrom σ d (take k t) v + 1) (sym (h .link-is r u .1)))
+
+    pub meets-steps : (r n : ℕ) (o : Walked) → used r ≡ true → node r ≡ spelt (longestSuffix σ (take k t)) → Meets b t k d (σ d) r n o → n ≡ searchSteps σ d (take k t)
+    meets-steps r n o u e m =
+        steps-within r n o u (walk-first σ d (take k t) (node r) e) m ∙ ap (stepsFrom σ d (take k t)) e ∙ steps-start σ d (take k t)
 
     -- from the link of the row of a palindrome w that ends them: it finds the longest behind w with d, which is the link of what d makes of w
-    pub meets-link : (u : ℕ) (o : Walked) (w : Word) → used u ≡ true → node u ≡ spelt w → Suffix w (take k t) → Meets b t k d (σ d) (linkIn b u) o → Found σ used node w d o
-    meets-link u o w m e x g =
+    pub meets-link : (u n : ℕ) (o : Walked) (w : Word) → used u ≡ true → node u ≡ spelt w → Suffix w (take k t) → Meets b t k d (σ d) (linkIn b u) n o → Found σ used node w d o
+    meets-link u n o w m e x g =
         let i = h .link-is u m in
         let f : node (linkIn b u) ≡ linkOf σ (spelt w) = i .1 ∙ ap (linkOf σ) e in
-        let n : NodeOf σ s (spelt w) = subst (NodeOf σ s) e (h .each-row u m) in
-        meets-within w x (linkIn b u) o (i .0)
-        (subst (Walk σ d w) (sym f) (walk-from-link σ d w (n .0)))
+        let v : NodeOf σ s (spelt w) = subst (NodeOf σ s) e (h .each-row u m) in
+        meets-within w x (linkIn b u) n o (i .0)
+        (subst (Walk σ d w) (sym f) (walk-from-link σ d w (v .0)))
         (inl (omega (arith, ap reachOf f, link-reach σ (spelt w) λ z. let y : _≡_ {A = ℕ} 0 1 = cc in omega arith)))
         g

@@ -72,14 +72,14 @@ module _ {b : Word} (g : Good b) where
     more = rw e (read-more (lettersIn b) k more-letters)
 
     pub good-step : (q : ℕ) → Stepped b (lettersIn b) k d (ruleOf b d) row q → Holds b (k + 1) q
-    good-step q (grown u m f) =
+    good-step q (grown u n m f) =
         let h = shows-covers (g .table) in
-        let w = meets-longest b h (rule-inverse (readingIn b)) (lettersIn b) k d (omega (arith, more-letters)) row (At u) (a .used) (a .holds) m in
+        let w = meets-longest b h (rule-inverse (readingIn b)) (lettersIn b) k d (omega (arith, more-letters)) row n (At u) (a .used) (a .holds) m in
         let p = step-there h (take k (lettersIn b)) d (subst (λ (x : Word). Stands x (lettersIn b)) more (read-stands (lettersIn b) (k + 1))) (rw e (letter-of (lettersIn b) k more-letters (g .letters))) u (w .0) (w .1) in
         record { used = rw f (p .0); holds = rw (f, more) (p .1) }
-    good-step q (ended m f) =
+    good-step q (ended n m f) =
         let h = shows-covers (g .table) in
-        let w : longestSuffix (ruleOf b) (take k (lettersIn b) ++ (d ∷ [])) ≡ [] = meets-longest b h (rule-inverse (readingIn b)) (lettersIn b) k d (omega (arith, more-letters)) row Nothing (a .used) (a .holds) m in
+        let w : longestSuffix (ruleOf b) (take k (lettersIn b) ++ (d ∷ [])) ≡ [] = meets-longest b h (rule-inverse (readingIn b)) (lettersIn b) k d (omega (arith, more-letters)) row n Nothing (a .used) (a .holds) m in
         record { used = rw f (h .row-one .0); holds = rw (f, more, w) (h .row-one .1) }
 
 -- the row come to spells the longest palindrome that ends the letters read

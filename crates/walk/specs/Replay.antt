@@ -7,6 +7,7 @@ use Rattle.palindromes.specs.Word.{Word}
 use Rattle.palindromes.specs.Record.{longestSuffix}
 use Rattle.palindromes.specs.End.{End, atLeft, atRight}
 use Rattle.palindromes.specs.Node.{spelt}
+use Rattle.palindromes.specs.SearchSteps.{searchSteps}
 use Rattle.store.specs.Layout.{usedIn, lettersIn}
 use Rattle.store.specs.Good.{ruleOf, nodeIn}
 use Rattle.store.specs.Writes.{towards}
@@ -19,6 +20,10 @@ lettersTowards b e = towards (ruleOf b) e (lettersIn b)
 abbrev pub letterTowards : (ℕ → ℕ) → End → ℕ → ℕ
 letterTowards σ atRight c = c
 letterTowards σ atLeft c = σ c
+
+-- how many candidates the search passes for a letter that is to join an end, all of it as it is read towards that end
+abbrev pub stepsTowards : Word → End → ℕ → ℕ
+stepsTowards b e c = searchSteps (ruleOf b) (letterTowards (ruleOf b) e c) (lettersTowards b e)
 
 -- the longest palindrome that ends the first k letters of the store
 abbrev pub endingIn : Word → ℕ → Word

@@ -28,17 +28,17 @@ pub data Chain (b : Word) : ℕ → Type 0 where
   root : {r : ℕ} → r ≡ 0 → 24 ≤ length b → Chain b r
   further : {r : ℕ} → 24 * r + 24 ≤ length b → cell b (linkIn b r) 0 < cell b r 0 → Chain b (linkIn b r) → Chain b r
 
--- the first row from r along the links that faces the wanted letter; row 0 faces the new letter itself
-pub data Meets (b t : Word) (k d want : ℕ) : ℕ → Walked → Type 0 where
-  letter : {r : ℕ} {o : Walked} → r ≡ 0 → want ≡ d → o ≡ At 0 → Meets b t k d want r o
-  nothing : {r : ℕ} {o : Walked} → r ≡ 0 → (want ≡ d → ⊥) → o ≡ Nothing → Meets b t k d want r o
-  here : {r : ℕ} {o : Walked} → (r ≡ 0 → ⊥) → facesAt b t k want r ≡ true → o ≡ At r → Meets b t k d want r o
-  onward : {r : ℕ} {o : Walked} → (r ≡ 0 → ⊥) → facesAt b t k want r ≡ false → Meets b t k d want (linkIn b r) o → Meets b t k d want r o
+-- the first row from r along the links that faces the wanted letter, once n rows are passed that do not; row 0 faces the new letter itself
+pub data Meets (b t : Word) (k d want : ℕ) : ℕ → ℕ → Walked → Type 0 where
+  letter : {r n : ℕ} {o : Walked} → r ≡ 0 → want ≡ d → n ≡ 0 → o ≡ At 0 → Meets b t k d want r n o
+  nothing : {r n : ℕ} {o : Walked} → r ≡ 0 → (want ≡ d → ⊥) → n ≡ 0 → o ≡ Nothing → Meets b t k d want r n o
+  here : {r n : ℕ} {o : Walked} → (r ≡ 0 → ⊥) → facesAt b t k want r ≡ true → n ≡ 0 → o ≡ At r → Meets b t k d want r n o
+  onward : {r n m : ℕ} {o : Walked} → (r ≡ 0 → ⊥) → facesAt b t k want r ≡ false → Meets b t k d want (linkIn b r) m o → n ≡ m + 1 → Meets b t k d want r n o
 
 -- the row q at the edge of the row that the walk meets, and row 1 where it meets none
 pub data Stepped (b t : Word) (k d want start q : ℕ) : Type 0 where
-  grown : (u : ℕ) → Meets b t k d want start (At u) → q ≡ edgeIn b u d → Stepped b t k d want start q
-  ended : Meets b t k d want start Nothing → q ≡ 1 → Stepped b t k d want start q
+  grown : (u n : ℕ) → Meets b t k d want start n (At u) → q ≡ edgeIn b u d → Stepped b t k d want start q
+  ended : (n : ℕ) → Meets b t k d want start n Nothing → q ≡ 1 → Stepped b t k d want start q
 
 -- what the walk for the letter d in q has found: a used row, around which d makes the longest palindrome that ends q·d, or that none ends it but the empty word
 abbrev pub Found : (ℕ → ℕ) → (ℕ → Bool) → (ℕ → Node) → Word → ℕ → Walked → Type 0

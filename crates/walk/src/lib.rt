@@ -27,12 +27,18 @@ pub enum Walked {
     Nothing,
 }
 
+// A walk: where it ended, and how many rows it passed before.
+pub struct Search {
+    pub met: Walked,
+    pub passed: usize,
+}
+
 // Whether the letter just before row's palindrome, as it stands, is c, the palindrome ending the first
 // k letters.
 pub fn faces(b: &[u8], f: Frame, side: Side, k: usize, row: usize, c: u8) -> bool
     requires { ⌜ Within (now b) f k ⌝ }
     requires { ⌜ (24 * row + 24 ≤ length (now b)) × (0 < cell (now b) row 0) ⌝ }
-    ensures { λ r. ⌜ r ≡ facesAt (now (b .entry)) (standingIn (now (b .entry)) f side) k c row ⌝ }
+    ensures { λ r. ⌜ (r ≡ facesAt (now (b .entry)) (standingIn (now (b .entry)) f side) k c row) × (cell (now (b .entry)) row 0 < 65536) ⌝ }
 {
     let place = lengths::before(k, rows::length_of(b, row));
     match place {
@@ -54,24 +60,31 @@ fn facing_letter(side: Side, d: u8, want: u8) -> u8
 
 // The first row from `start` along the links that has `want`, the partner of d, just before it; the
 // imaginary string has d itself.
-pub fn walk(b: &[u8], f: Frame, side: Side, k: usize, start: usize, d: u8, want: u8) -> Walked
+pub fn walk(b: &[u8], f: Frame, side: Side, k: usize, start: usize, d: u8, want: u8) -> Search
     requires { ⌜ Within (now b) f k ⌝ }
     requires { ⌜ Chain (now b) start ⌝ }
     requires { ⌜ want ≡ partnerIn f d ⌝ }
-    ensures { λ r. ⌜ Meets (now (b .entry)) (seenIn (now (b .entry)) f side) k d (partnerIn f d) start r ⌝ }
+    ensures { λ r. ⌜ Meets (now (b .entry)) (seenIn (now (b .entry)) f side) k d (partnerIn f d) start (r .passed) (r .met) ⌝ }
 {
     let facing = facing_letter(side, d, want);
     let mut row = start;
+    let mut passed = 0;
     while row != Row::IMAGINARY {
         if faces(b, f, side, k, row, facing) {
-            return Walked::At(row);
+            return Search {
+                met: Walked::At(row),
+                passed,
+            };
         }
         row = rows::link_of(b, row);
+        passed += 1;
     }
-    if want == d {
-        return Walked::At(Row::IMAGINARY);
-    }
-    Walked::Nothing
+    let met = if want == d {
+        Walked::At(Row::IMAGINARY)
+    } else {
+        Walked::Nothing
+    };
+    Search { met, passed }
 }
 
 // The row at the edge that the walk found, and the empty string's where it found none.
@@ -81,8 +94,9 @@ pub fn step(b: &[u8], f: Frame, side: Side, k: usize, start: usize, d: u8, want:
     requires { ⌜ want ≡ partnerIn f d ⌝ }
     ensures { λ r. ⌜ Stepped (now (b .entry)) (seenIn (now (b .entry)) f side) k d (partnerIn f d) start r ⌝ }
 {
-    let found = walk(b, f, side, k, start, d, want);
-    match found {
+    let search = walk(b, f, side, k, start, d, want);
+    let met = search.met;
+    match met {
         Walked::At(u) => rows::edge_of(b, u, d),
         Walked::Nothing => Row::EMPTY,
     }

@@ -27,8 +27,8 @@ module _ {b : Word} {f : Frame} (h : Frames b f) (k : ℕ) where
   letter e = e ∙ ap (λ (t : Word). getD t k 0) (framed-standing h)
 
   -- and what the walk does, it does over the store's letters
-  met : {d r : ℕ} {o : Walked} → Meets b (seenIn b f Right) k d (partnerIn f d) r o → Meets b (lettersIn b) k d (ruleOf b d) r o
-  met {d} {r} {o} m = subst₂ (λ (t : Word) (want : ℕ). Meets b t k d want r o) (framed-right h) (framed-rule h d) m
+  met : {d r n : ℕ} {o : Walked} → Meets b (seenIn b f Right) k d (partnerIn f d) r n o → Meets b (lettersIn b) k d (ruleOf b d) r n o
+  met {d} {r} {n} {o} m = subst₂ (λ (t : Word) (want : ℕ). Meets b t k d want r n o) (framed-right h) (framed-rule h d) m
 
 -- the entry, from behind the walk
 abbrev entry : tie.After-walk → tie.Start
@@ -57,7 +57,7 @@ enter-requires c κs =
     let p = entry w .pre in
     let e = letter (p .0 .0) (entry w .args .k) (w .before .before .standing .ensures) in
     let m = met (p .0 .0) (entry w .args .k) (w .walk .ensures) in
-    ((p .0 .0, wanted (w .before)), (p .1, tour-grows (p .1) e m (found .found .given .0 .0) (found .found .given .1)))
+    ((p .0 .0, wanted (w .before)), (p .1, tour-grows (p .1) e m (found .met .given .0 .0) (found .met .given .1)))
 
 returns-2 : tie.Need-returns-2
 returns-2 c =

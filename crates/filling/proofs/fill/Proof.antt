@@ -8,12 +8,10 @@ use Rattle.palindromes.specs.Word.{Word}
 use Rattle.palindromes.specs.End.{End}
 use Rattle.store.specs.Side.{endOf}
 use Rattle.walk.proofs.Stores.{header-fits}
-use Rattle.transitions.specs.Rows.{freeRow}
-use Rattle.transitions.specs.Addition.{bringsIn, afterAddition}
+use Rattle.transitions.specs.Addition.{afterAddition}
 use Rattle.transitions.specs.Turning.{afterAdditions}
-use Rattle.outcome.specs.Answers.{addedOf}
 use Rattle.outcome.specs.declared.answers.Added.{Added}
-use Rattle.filling.specs.Last.{brought}
+use Rattle.filling.specs.Last.{bringing, brought}
 use Rattle.filling.proofs.Filling.{first-ones, next-letter, next-room, next-partner, one-more, all-joined, last-brings}
 use Rattle.filling.proofs.fill.Statement.{statement}
 use Rattle.filling.proofs.fill.Tie as tie
@@ -81,7 +79,7 @@ loop-again c =
       most = omega (arith, more looked);
       brings = λ j f.
           let same : k .i ≡ j = omega arith in
-          done .answer ∙ ap (λ (t : Word). addedOf (bringsIn e (getD w (k .i) 0) t) (freeRow t)) (k .inv .store) ∙ ap (λ (n : ℕ). brought e (take n w) (getD w n 0) b) same;
+          done .answer ∙ ap (bringing e (getD w (k .i) 0)) (k .inv .store) ∙ ap (λ (n : ℕ). brought e (take n w) (getD w n 0) b) same;
     }
 
 same-length : tie.Need-same-length Inv-loop μ-loop

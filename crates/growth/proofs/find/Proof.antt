@@ -1,14 +1,15 @@
--- `growth::find` looks at the edge of the row that the walk met: it tells whether the palindrome is new. Assumes nothing.
+-- `growth::find` looks at the edge of the row that the walk met: it tells whether the palindrome is new. How many rows the walk passed is handed on. Assumes nothing.
 use Prim.Native.Nat.{ℕ}
 use mathlib.Core.Path.{_≡_, sym, ap, _∙_, subst}
 use mathlib.Core.Bool.{true}
 use borrow.Author.Needs.{needs}
 use Rattle.palindromes.specs.Word.{Word, isLetter}
+use Rattle.palindromes.specs.SearchSteps.{searchSteps}
 use Rattle.store.specs.Good.{ruleOf}
 use Rattle.store.specs.Side.{endOf}
 use Rattle.walk.specs.declared.Walked.{Walked}
 use Rattle.walk.specs.declared.Walked.the-variants.{At}
-use Rattle.walk.specs.Replay.{letterTowards}
+use Rattle.walk.specs.Replay.{lettersTowards, letterTowards, stepsTowards}
 use Rattle.transitions.proofs.Rows.{used-fits}
 use Rattle.growth.specs.Steps.{Met, RowFor, StoodIs}
 use Rattle.growth.proofs.Growing.{read-letter, read-partner, letter-read, longest-met, found-new, found-old, found-none}
@@ -53,7 +54,13 @@ abbrev MetAt : tie.After-read-as2 → Walked → Type 0
 MetAt c o = Met (from-read c .args .b .now) (endOf (from-read c .args .side)) (read c) o
 
 met-row : (c : tie.After-met) → MetAt (at-read c) (At (row c))
-met-row c = subst (λ (o : Walked). MetAt (at-read c) o) (c .met .given .1) (c .before .before .meet .ensures)
+met-row c = subst (λ (o : Walked). MetAt (at-read c) o) (c .met .given .1) (c .before .before .meet .ensures .0)
+
+-- and how many rows it passed
+steps : (c : tie.After-meet) → c .meet .result .passed ≡ stepsTowards (from-read (c .before) .args .b .now) (endOf (from-read (c .before) .args .side)) (from-read (c .before) .args .c)
+steps c =
+    let s = from-read (c .before) in
+    c .meet .ensures .1 ∙ ap (λ (d : ℕ). searchSteps (ruleOf (s .args .b .now)) d (lettersTowards (s .args .b .now) (endOf (s .args .side)))) (same (c .before))
 
 meet-requires : tie.Need-meet-requires
 meet-requires c κs = (from-read c .pre .0, partner c)
@@ -75,11 +82,13 @@ returns c =
     let d = at-read m in
     let s = from-read d in
     let e = endOf (s .args .side) in
-    let longest = longest-met (s .pre .0) e (s .args .c) (read d) (same d) (row m) (met-row m) in
-    record {
-      new = found-new (s .pre .0) e (s .args .c) (read d) (same d) (row m) (is-letter d) (met-row m) (sym (edge .edge-of .ensures .0) ∙ c .before .if1 .taken);
-      row-for = subst (λ (v : Word). RowFor (s .args .b .now) v (c .row-around .result)) (sym longest) (c .row-around .ensures);
-    }
+    let longest = longest-met (s .pre .0) e (s .args .c) (read d) (same d) (row m) (met-row m) in (
+      record {
+        new = found-new (s .pre .0) e (s .args .c) (read d) (same d) (row m) (is-letter d) (met-row m) (sym (edge .edge-of .ensures .0) ∙ c .before .if1 .taken);
+        row-for = subst (λ (v : Word). RowFor (s .args .b .now) v (c .row-around .result)) (sym longest) (c .row-around .ensures);
+      },
+      steps (m .before .before),
+    )
 
 returns-2 : tie.Need-returns-2
 returns-2 c =
@@ -87,16 +96,20 @@ returns-2 c =
     let m = at-met (c .before) in
     let d = at-read m in
     let s = from-read d in
-    let e = endOf (s .args .side) in
-    subst (λ (q : ℕ). StoodIs (s .args .b .now) e (s .args .c) q) (sym edge)
-    (found-old (s .pre .0) e (s .args .c) (read d) (same d) (row m) (is-letter d) (met-row m) λ z. c .if1 .left (edge ∙ z))
+    let e = endOf (s .args .side) in (
+      subst (λ (q : ℕ). StoodIs (s .args .b .now) e (s .args .c) q) (sym edge)
+          (found-old (s .pre .0) e (s .args .c) (read d) (same d) (row m) (is-letter d) (met-row m) λ z. c .if1 .left (edge ∙ z)),
+      steps (m .before .before),
+    )
 
 returns-3 : tie.Need-returns-3
 returns-3 c =
     let d = c .before .before .before in
-    let s = from-read d in
-    found-none (s .pre .0) (endOf (s .args .side)) (s .args .c) (read d) (same d)
-    (subst (λ (o : Walked). MetAt d o) (c .enum-told .given .1) (c .before .before .meet .ensures))
+    let s = from-read d in (
+      found-none (s .pre .0) (endOf (s .args .side)) (s .args .c) (read d) (same d)
+          (subst (λ (o : Walked). MetAt d o) (c .enum-told .given .1) (c .before .before .meet .ensures .0)),
+      steps (c .before .before),
+    )
 
 pub find-spec : {M : Type 1} → statement M
 find-spec =

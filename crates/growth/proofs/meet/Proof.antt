@@ -9,7 +9,7 @@ use Rattle.store.specs.Side.{endOf}
 use Rattle.walk.specs.Walk.{Meets}
 use Rattle.walk.proofs.Stores.{header-fits, framed-rule, framed-within}
 use Rattle.walk.proofs.Reading.{good-chain}
-use Rattle.growth.proofs.Growing.{framed, met}
+use Rattle.growth.proofs.Growing.{framed, met, passed}
 use Rattle.growth.proofs.meet.Statement.{statement}
 use Rattle.growth.proofs.meet.Tie as tie
 
@@ -28,8 +28,9 @@ returns : tie.Need-returns
 returns c =
     let s = c .before .before .before .before in
     let a = s .args in
-    met (s .pre .0) (endOf (a .side)) (a .d) (c .walk .result)
-    (framed (c .before .before .frame-of .ensures) (a .side) (a .d) (c .before .end-row .ensures .0) (λ (t : Word) (k want start : ℕ). Meets (a .b .now) t k (a .d) want start (c .walk .result)) (c .walk .ensures))
+    let r = c .walk .result in
+    let m = framed (c .before .before .frame-of .ensures) (a .side) (a .d) (c .before .end-row .ensures .0) (λ (t : Word) (k want start : ℕ). Meets (a .b .now) t k (a .d) want start (r .passed) (r .met)) (c .walk .ensures) in
+    (met (s .pre .0) (endOf (a .side)) (a .d) (r .passed) (r .met) m, passed (s .pre .0) (endOf (a .side)) (a .d) (r .passed) (r .met) m)
 
 pub meet-spec : {M : Type 1} → statement M
 meet-spec = tie.close (tie.spec (λ c κs. search needs) end-row-requires walk-requires returns)

@@ -1,6 +1,6 @@
 -- `walk::faces` tells whether the wanted letter stands just before the row's palindrome: the place before it is the one that the row's stored length
 -- tells, and the letter there is the one that stands. Assumes nothing.
-use Prim.Native.Nat.{ℕ, _-_, _≤_}
+use Prim.Native.Nat.{ℕ, _-_, _≤_, _<_}
 use native.Mathlib.Omega.{arith}
 use borrow.Author.Needs.{needs}
 use borrow.Author.Tests.{leb-true, le-leb}
@@ -11,7 +11,7 @@ use lib.ListN.{getD}
 use Rattle.palindromes.specs.Word.{Word}
 use Rattle.store.specs.Layout.{cell, lengthIn}
 use Rattle.store.specs.Lengths.{placeBefore}
-use Rattle.store.proofs.Signed.{kept}
+use Rattle.store.proofs.Signed.{number-is, kept}
 use Rattle.store.specs.declared.lengths.Place.the-variants.{At, Outside}
 use Rattle.walk.specs.Frame.{standingIn}
 use Rattle.walk.specs.Walk.{facesAt}
@@ -52,16 +52,25 @@ standing-requires c κs =
     let h = placed (s .args .k) (cell (s .args .b .now) (s .args .row) 0) (c .before .place .given .0 .0) (sym (place-is (c .before .before .before)) ∙ c .before .place .given .1) in
     (s .pre .0 .letters, omega (arith, h .0, h .1, s .pre .0 .read, s .pre .1 .1))
 
+-- the length that it reads is a number of two bytes
+small : (c : tie.After-length-of) → cell (c .before .before .args .b .now) (c .before .before .args .row) 0 < 65536
+unfolding lengthIn
+small c =
+    let l = c .length-of .ensures in
+    omega (arith, l .1 .small, number-is (l .1) (cell (c .before .before .args .b .now) (c .before .before .args .row) 0) (l .0))
+
 returns : tie.Need-returns
 returns c =
-    let a = c .before .before .before .before .before .before .before .args in
-    there (a .b .now) (standingIn (a .b .now) (a .f) (a .side)) (a .k) (a .c) (a .row) (c .before .before .place .given .0 .0) (c .standing .result)
-    (sym (place-is (c .before .before .before .before)) ∙ c .before .before .place .given .1) (c .standing .ensures)
+    let a = c .before .before .before .before .before .before .before .args in (
+      there (a .b .now) (standingIn (a .b .now) (a .f) (a .side)) (a .k) (a .c) (a .row) (c .before .before .place .given .0 .0) (c .standing .result)
+          (sym (place-is (c .before .before .before .before)) ∙ c .before .before .place .given .1) (c .standing .ensures),
+      small (c .before .before .before .before .before),
+    )
 
 returns-2 : tie.Need-returns-2
 returns-2 c =
     let a = c .before .before .before .before .before .args in
-    nowhere (a .b .now) (standingIn (a .b .now) (a .f) (a .side)) (a .k) (a .c) (a .row) (sym (place-is (c .before .before)) ∙ c .enum-told .given .1)
+    (nowhere (a .b .now) (standingIn (a .b .now) (a .f) (a .side)) (a .k) (a .c) (a .row) (sym (place-is (c .before .before)) ∙ c .enum-told .given .1), small (c .before .before .before))
 
 pub faces-spec : {M : Type 1} → statement M
 faces-spec =

@@ -1,10 +1,11 @@
 -- `walk::walk` finds the first row along the links that faces the wanted letter. The loop's invariant (`Turn`): from the row that it has come to the links lead down to row 0, and what the
--- walk finds from there it finds from the start. The measure is the row's stored length, which falls along the links. Assumes nothing.
-use Prim.Native.Nat.{ℕ, _<_}
+-- walk finds from there it finds from the start, once the rows counted are passed; there are few of those, for the rows' stored lengths fall. The measure is the row's stored length. Assumes nothing.
+use Prim.Native.Nat.{ℕ, _+_, _<_}
 use native.Mathlib.Omega.{arith}
 use borrow.Author.Needs.{needs}
 use mathlib.Core.Path.{_≡_, refl, sym, ap, _∙_, subst}
 use mathlib.Core.Bool.{Bool, true, false}
+use mathlib.Core.Logic.{_⊎_, inl, inr, ⊎-elim}
 use Rattle.palindromes.specs.Word.{Word}
 use Rattle.store.specs.Layout.{cell, linkIn}
 use Rattle.store.specs.Side.{endOf}
@@ -18,33 +19,47 @@ use Rattle.walk.proofs.walk.Statement.{statement}
 use Rattle.walk.proofs.walk.Tie as tie
 
 -- what holds at the row that the walk has come to
-record Turn (b t : Word) (k d want start row : ℕ) : Type 0 where
+record Turn (b t : Word) (k d want start row passed : ℕ) : Type 0 where
   chain : Chain b row
-  back : (o : Walked) → Meets b t k d want row o → Meets b t k d want start o
+  few : (passed ≡ 0) ⊎ (passed + cell b row 0 < 65536)
+  back : (n m : ℕ) (o : Walked) → m ≡ passed + n → Meets b t k d want row n o → Meets b t k d want start m o
+
+-- at the first row
+turn-start : {b t : Word} {k d want start : ℕ} → Chain b start → Turn b t k d want start start 0
+turn-start {b} {t} {k} {d} {want} {start} h =
+    record { chain = h; few = inl refl; back = λ n m o e g. subst (λ (i : ℕ). Meets b t k d want start i o) (omega arith) g }
 
 abbrev Inv-loop : tie.InvT-loop
-Inv-loop b f side k start d want facing row₀ row = Turn b (seenIn b f side) k d (partnerIn f d) start row
+Inv-loop b f side k start d want facing row₀ passed₀ row passed = Turn b (seenIn b f side) k d (partnerIn f d) start row passed
 
 abbrev μ-loop : tie.MeasureT-loop
-μ-loop b f side k start d want facing row₀ row = cell b row 0
+μ-loop b f side k start d want facing row₀ passed₀ row passed = cell b row 0
 
-module _ {b t : Word} {k d want start row : ℕ} (h : Turn b t k d want start row) (n : row ≡ 0 → ⊥) (x : Bool) (f : x ≡ facesAt b t k want row) where
+module _ {b t : Word} {k d want start row passed : ℕ} (h : Turn b t k d want start row passed) (n : row ≡ 0 → ⊥) (x : Bool) (f : (x ≡ facesAt b t k want row) × (cell b row 0 < 65536)) where
   -- the walk ends at a row that faces the wanted letter
-  turn-here : x ≡ true → Meets b t k d want start (At row)
-  turn-here g = h .back (At row) (here n (cc) refl)
+  turn-here : x ≡ true → Meets b t k d want start passed (At row)
+  turn-here g = h .back 0 passed (At row) (omega arith) (here n (cc (f .0)) refl refl)
 
-  -- else it goes on to the row's link
-  turn-on : x ≡ false → (q : ℕ) → q ≡ linkIn b row → Turn b t k d want start q
+  -- else it goes on to the row's link, with one row more passed; the stored lengths are numbers of two bytes, so that these are few
+  few-more : passed + 1 + cell b (linkIn b row) 0 < 65536
+  few-more = ⊎-elim (λ z. omega (arith, f .1, chain-next (h .chain) n .0)) (λ l. omega (arith, chain-next (h .chain) n .0)) (h .few)
+
+  turn-on : x ≡ false → (q : ℕ) → q ≡ linkIn b row → Turn b t k d want start q (passed + 1)
   turn-on g q l =
-      let miss : facesAt b t k want row ≡ false = cc in
-      subst (Turn b t k d want start) (sym l) (record { chain = chain-next (h .chain) n .1; back = λ o m. h .back o (onward n miss m) })
+      let miss : facesAt b t k want row ≡ false = cc (f .0) in
+      subst (λ (r : ℕ). Turn b t k d want start r (passed + 1)) (sym l)
+      (record {
+        chain = chain-next (h .chain) n .1;
+        few = inr few-more;
+        back = λ i m o e g. h .back (i + 1) m o (omega arith) (onward n miss g refl);
+      })
 
 -- the entry from behind a comparison
 abbrev from-faces : tie.After-faces Inv-loop μ-loop → tie.Start Inv-loop μ-loop
 from-faces c = c .before .before .before .before .before
 
 loop-holds : tie.Need-loop-holds Inv-loop μ-loop
-loop-holds c = record { chain = c .before .before .pre .1 .0; back = λ o m. m }
+loop-holds c = turn-start (c .before .before .pre .1 .0)
 
 faces-requires : tie.Need-faces-requires Inv-loop μ-loop
 faces-requires c κs =
@@ -53,7 +68,7 @@ faces-requires c κs =
 
 -- the test says whether the partner of d is read before the row's palindrome
 abbrev Tells : tie.Start Inv-loop μ-loop → Bool → ℕ → Type 0
-Tells s x row = let a = s .args in x ≡ facesAt (a .b .now) (seenIn (a .b .now) (a .f) (a .side)) (a .k) (partnerIn (a .f) (a .d)) row
+Tells s x row = let a = s .args in (x ≡ facesAt (a .b .now) (seenIn (a .b .now) (a .f) (a .side)) (a .k) (partnerIn (a .f) (a .d)) row) × (cell (a .b .now) row 0 < 65536)
 
 -- and so does the comparison with the letter that stands there
 compared : (c : tie.After-faces Inv-loop μ-loop) → Tells (from-faces c) (c .faces .result) (c .before .before .loop .row)
@@ -64,10 +79,12 @@ compared c =
     let row = c .before .before .loop .row in
     let stored : 0 < cell (a .b .now) row 0 = omega (arith, chain-next (c .before .before .loop .inv .chain) (c .before .loop-test .taken) .0) in
     let letter : chosen .facing-letter .result ≡ facing (endOf (a .side)) (a .d) (partnerIn (a .f) (a .d)) =
-    chosen .facing-letter .ensures ∙ ap (facing (endOf (a .side)) (a .d)) (s .pre .1 .1) in
-    c .faces .ensures
-    ∙ ap (λ (x : ℕ). facesAt (a .b .now) (standingIn (a .b .now) (a .f) (a .side)) (a .k) x row) letter
-    ∙ facing-read (a .b .now) (a .f) (a .side) (a .k) (a .d) row (s .pre .0) stored
+    chosen .facing-letter .ensures ∙ ap (facing (endOf (a .side)) (a .d)) (s .pre .1 .1) in (
+      c .faces .ensures .0
+          ∙ ap (λ (x : ℕ). facesAt (a .b .now) (standingIn (a .b .now) (a .f) (a .side)) (a .k) x row) letter
+          ∙ facing-read (a .b .now) (a .f) (a .side) (a .k) (a .d) row (s .pre .0) stored,
+      c .faces .ensures .1,
+    )
 
 returns : tie.Need-returns Inv-loop μ-loop
 returns c =
@@ -76,6 +93,11 @@ returns c =
 
 link-of-requires : tie.Need-link-of-requires Inv-loop μ-loop
 link-of-requires c κs = chain-fits (c .before .before .before .loop .inv .chain)
+
+add-passed : tie.Need-add-passed Inv-loop μ-loop
+add-passed c =
+    let at = c .before .before in
+    omega (arith, few-more (at .before .before .loop .inv) (at .before .loop-test .taken) (at .faces .result) (compared at))
 
 loop-less : tie.Need-loop-less Inv-loop μ-loop
 loop-less c = rw (c .link-of .ensures .0) (chain-next (c .before .before .before .before .loop .inv .chain) (c .before .before .before .loop-test .taken) .0)
@@ -90,15 +112,17 @@ returns-2 : tie.Need-returns-2 Inv-loop μ-loop
 returns-2 c =
     let s = c .before .before .before .before .before in
     let partner = s .pre .1 .1 in
-    c .before .before .loop .inv .back (At 0) (letter (c .before .loop-test .left) (sym partner ∙ c .if2 .taken) refl)
+    let l = c .before .before .loop in
+    l .inv .back 0 (l .passed) (At 0) (omega arith) (letter (c .before .loop-test .left) (sym partner ∙ c .if2 .taken) refl refl)
 
 returns-3 : tie.Need-returns-3 Inv-loop μ-loop
 returns-3 c =
     let s = c .before .before .before .before .before in
     let partner = s .pre .1 .1 in
-    c .before .before .loop .inv .back Nothing (nothing (c .before .loop-test .left) (λ e. c .if2 .left (partner ∙ e)) refl)
+    let l = c .before .before .loop in
+    l .inv .back 0 (l .passed) Nothing (omega arith) (nothing (c .before .loop-test .left) (λ e. c .if2 .left (partner ∙ e)) refl refl)
 
 pub walk-spec : {M : Type 1} → statement M
 walk-spec =
     tie.close
-    (tie.spec Inv-loop μ-loop (λ c κs. search needs) loop-holds faces-requires returns link-of-requires loop-less loop-again returns-2 returns-3)
+    (tie.spec Inv-loop μ-loop (λ c κs. search needs) loop-holds faces-requires returns link-of-requires add-passed loop-less loop-again returns-2 returns-3)
