@@ -7,7 +7,9 @@ pub mod Removal
 pub mod Turn
 pub mod Undone
 pub mod Theorem
+pub mod Appending
 pub mod Possible
 pub mod Example
 pub mod ExampleInverted
 pub mod ExampleTurned
+pub mod ExampleAppending

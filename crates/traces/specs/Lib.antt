@@ -1,2 +1,3 @@
 pub mod Run
 pub mod Claims
+pub mod Appending
