@@ -81,6 +81,7 @@ static void say_add(const struct line *l, uint64_t answer)
     spell(mirror_row_of(answer));
     say_text();
     printf(mirror_flag(answer) ? " is new, row %u" : "none new", mirror_row_of(answer));
+    if (mirror_first(answer)) printf("; %u passed", mirror_first(answer));
 }
 
 /* What goes is the longest repeat at the end, which can be spelt only before it has gone. */

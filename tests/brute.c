@@ -77,6 +77,17 @@ size_t brute_left(const unsigned char *rule, const unsigned char *s, size_t n)
     return 0;
 }
 
+size_t brute_steps(const unsigned char *rule, const unsigned char *s, size_t n, unsigned char c)
+{
+    size_t passed = 0;
+    for (size_t start = 0; start <= n; start++) {
+        if (start < n && !brute_palindrome(rule, s + start, n - start)) continue;
+        if (start > 0 && s[start - 1] == rule[c]) return passed;
+        passed++;
+    }
+    return passed;
+}
+
 size_t brute_link(const unsigned char *rule, const unsigned char *w, size_t n)
 {
     for (size_t start = 1; start < n; start++)

@@ -25,6 +25,9 @@ stretch brute_longest(const unsigned char *rule, const unsigned char *s, size_t 
 /* The length of the longest palindrome at the right and at the left end. */
 size_t brute_right(const unsigned char *rule, const unsigned char *s, size_t n);
 size_t brute_left(const unsigned char *rule, const unsigned char *s, size_t n);
+/* How many are passed before the first that has the partner of c just to its left: the palindromes that end s, longest first,
+ * then the empty word, then the imaginary one, which always serves. */
+size_t brute_steps(const unsigned char *rule, const unsigned char *s, size_t n, unsigned char c);
 /* The length of the longest proper suffix of w that is a palindrome. */
 size_t brute_link(const unsigned char *rule, const unsigned char *w, size_t n);
 #endif

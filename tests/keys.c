@@ -1,8 +1,9 @@
 /* The sittings with known keys of the scope, as its table has them, through the C boundary. Those without a star are
  * here only; the starred ones are proved (crates/known_answers) and run here too, at several capacities and built from either end.
  * A key is compared as it stands in the table, and no other program is asked. Beside the table: small letters are refused,
- * the keys of inverted records that 02 (vi) and source 004 have, records that are turned, 02 (vii), and how many repeats of each
- * length a store carries, 02 (ii). Keys that ask for no repeat are run with either opening. */
+ * the keys of inverted records that 02 (vi) and source 004 have, records that are turned, 02 (vii), how many repeats of each
+ * length a store carries, 02 (ii), and what additions report of their search, 02 (xiii). Keys that ask for no repeat are run with
+ * either opening. */
 #include "mirror.h"
 #include <stdio.h>
 #include <stdlib.h>
@@ -148,7 +149,7 @@ static void longer_records(uint64_t capacity, int from_left)
 {
     record(mirror_open, "ACA", capacity, from_left);
     uint64_t answer = mirror_add_right(store, length, 'C');
-    key("CAC is new", 1ull << 8 | row_of("CAC") << 16, answer);
+    key("CAC is new, past ACA", 1ull << 8 | row_of("CAC") << 16 | 1ull << 32, answer);
     key("count", 4, count());
     record(mirror_open, "ACGA", capacity, from_left);
     key("add G left: none new", 0, mirror_add_left(store, length, 'G'));
@@ -417,6 +418,45 @@ static void longest_of_all(void)
     }
 }
 
+/* ---- what additions report of their search, 02 (xiii) */
+
+/* the letters added one by one at an end of an empty record, with a digit for what each reports; the sum of the digits */
+static void reports(opening *open, uint64_t capacity, int left, const char *letters, const char *digits, uint64_t sum)
+{
+    record(open, "", capacity, 0);
+    sitting = letters;
+    for (size_t i = 0; letters[i]; i++) {
+        uint64_t answer = (left ? mirror_add_left : mirror_add_right)(store, length, (unsigned char)letters[i]);
+        key("what is reported", (uint64_t)(digits[i] - '0'), mirror_first(answer));
+        sum -= mirror_first(answer);
+    }
+    key("the sum", 0, sum);
+}
+
+/* AC reaches 2n - 1 with 3; in ACAC the repeat at the end has the letter before it, and is not passed */
+static void searches(uint64_t capacity)
+{
+    reports(mirror_open, capacity, 0, "A", "1", 1);
+    reports(mirror_open, capacity, 0, "AC", "12", 3);
+    reports(mirror_open, capacity, 0, "AAAA", "1111", 4);
+    reports(mirror_open, capacity, 0, "ACAC", "1201", 4);
+    reports(mirror_open, capacity, 0, "AAAAAC", "111116", 11);
+    reports(mirror_open, capacity, 0, "ACGAAG", "122210", 8);
+    reports(mirror_open, capacity, 1, "AAAAAC", "000000", 0);
+    reports(mirror_open_inverted, capacity, 0, "GAATTC", "000000", 0);
+    reports(mirror_open_inverted, capacity, 1, "GAATTC", "000000", 0);
+}
+
+/* a turned record reports as one that was opened so */
+static void searches_after_turns(uint64_t capacity)
+{
+    record(mirror_open_inverted, "AAAA", capacity, 0);
+    key("inverted", 0, mirror_first(mirror_add_right(store, length, 'C')));
+    goes(0, 'C', NULL);
+    key("turn plain", 0, mirror_turn_plain(store, length));
+    key("plain: AAAA, AAA, AA, A and the empty string are passed", 5, mirror_first(mirror_add_right(store, length, 'C')));
+}
+
 /* the keys that ask for no repeat */
 static void either_reading(opening *open)
 {
@@ -450,6 +490,10 @@ int main(void)
             lengths(capacities[k], from_left);
             inverted_lengths(capacities[k], from_left);
         }
+    for (size_t k = 0; k < sizeof capacities / sizeof capacities[0]; k++) {
+        searches(capacities[k]);
+        searches_after_turns(capacities[k]);
+    }
     longest_of_all();
     printf("%lu keys\n", compared);
     return 0;

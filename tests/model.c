@@ -279,11 +279,12 @@ void model_add(int left, uint64_t letter, int undo)
         unchanged("a refused addition changed the store");
         return;
     }
+    size_t steps = left || reading != PLAIN ? 0 : brute_steps(rule, letters, length, (unsigned char)letter);
     join(left, letter);
     size_t n = left ? brute_left(rule, letters, length) : brute_right(rule, letters, length);
     const unsigned char *w = left ? letters : letters + length - n;
     unsigned fresh = n > 0 && known(w, n) < 0, row = fresh ? mirror_row_of(got) : 0;
-    same("addition", packed(fresh, row, 0, 0), got);
+    same("addition", packed(fresh, row, steps, 0), got);
     size_t raised = fresh && n > largest ? n : largest; /* to the new repeat's length, or not at all */
     if (undo) {
         same("longest length, before the addition is undone", packed(0, 0, raised, 0), mirror_longest_length(store, store_length));

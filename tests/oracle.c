@@ -56,7 +56,8 @@ static uint64_t change_answer(const call *c)
         memcpy(w + left, was.letters, n);
         w[left ? 0 : n] = (unsigned char)c->number;
         size_t m = left ? brute_left(was.rule, w, n + 1) : brute_right(was.rule, w, n + 1);
-        return packed(brute_places(left ? w : w + n + 1 - m, m, was.letters, n, &first) == 0, 0, 0, 0);
+        size_t steps = left || was.reading != PLAIN ? 0 : brute_steps(was.rule, was.letters, n, (unsigned char)c->number);
+        return packed(brute_places(left ? w : w + n + 1 - m, m, was.letters, n, &first) == 0, 0, steps, 0);
     }
     if (n == 0) return 6;
     size_t m = left ? brute_left(was.rule, was.letters, n) : brute_right(was.rule, was.letters, n);
@@ -262,7 +263,7 @@ uint64_t oracle(uint8_t *store, size_t length, const call *c)
     /* what is accepted and no question; but a turn to the reading in force must leave every byte */
     int changes = c->kind < LENGTH && (wanted & 0xff) == 0 && c->kind != TURN_PLAIN + was.reading;
     oracle_calls++;
-    if (changes && c->kind <= ADD_RIGHT && wanted != 0) wanted |= (uint64_t)layout_cell(before, was.count + 2, CELL_ORDER) << 16;
+    if (changes && c->kind <= ADD_RIGHT && mirror_flag(wanted)) wanted |= (uint64_t)layout_cell(before, was.count + 2, CELL_ORDER) << 16;
     if (wanted != got) fail(c, "answer", wanted, got, length);
     if (!changes && memcmp(store, before, length) != 0) fail(c, "the store changed", 0, 1, length);
     if (changes && turns) check_turned(store, length, c);

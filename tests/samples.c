@@ -109,12 +109,14 @@ static void add(int left, char letter, char *said)
 {
     const unsigned char *word;
     if (size == MOST) fail("letters", "too many", "");
+    size_t steps = left || reading != PLAIN ? 0 : brute_steps(rule, letters, size, (unsigned char)letter);
     memmove(letters + left, letters, size);
     letters[left ? 0 : size] = (unsigned char)letter;
     size++;
     size_t m = at_end(left, &word);
-    if (m == 0 || find(word, m)) strcpy(said, "none new");
-    else sprintf(said, "%.*s is new, row %u", (int)m, (const char *)word, take_row(word, m)->row);
+    if (m == 0 || find(word, m)) said += sprintf(said, "none new");
+    else said += sprintf(said, "%.*s is new, row %u", (int)m, (const char *)word, take_row(word, m)->row);
+    if (steps > 0) sprintf(said, "; %zu passed", steps);
 }
 
 static void take_away(int left, char *said)
