@@ -34,7 +34,7 @@ static inline uint64_t add_in(uint8_t *b, struct view v, enum side side, uint8_t
 {
     unsigned n = size_of(b);
     uint8_t d = v.seen_as[letter];
-    unsigned u = walk(b, v, n, end_row(b, side), d), row = made(b, v, u, d);
+    unsigned passed, u = walk_counted(b, v, n, end_row(b, side), d, &passed), row = made(b, v, u, d);
     bool is_new = row == 0;
     if (is_new)
         row = hang(b, v, u, d);
@@ -46,7 +46,7 @@ static inline uint64_t add_in(uint8_t *b, struct view v, enum side side, uint8_t
     set_end_row(b, side, row);
     if (get(b, row, LENGTH) == n + 2)
         set_end_row(b, side == LEFT ? RIGHT : LEFT, row);
-    return is_new ? answer(true, row, 0, 0) : 0;
+    return answer(is_new, is_new ? row : 0, side == RIGHT && !v.inverted ? passed : 0, 0);
 }
 
 #endif

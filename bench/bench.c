@@ -10,6 +10,7 @@
 
 #include "calls.h"
 #include "cells.h"
+#include "draw.h"
 #include "timing.h"
 #include "words.h"
 
@@ -306,16 +307,16 @@ static void measure_growth(int call, int word, double *us)
 /* Draws the cost of the addition and of the test against n, and prints how it grows. */
 static void growth(FILE *out)
 {
-    static struct panel panels[2] = {{.title = "add right, tested (microseconds)"},
-                                     {.title = "the test alone (microseconds)"}};
+    static struct panel panels[2] = {{.title = "add right, tested (microseconds)", .points = POINTS},
+                                     {.title = "the test alone (microseconds)", .points = POINTS}};
     static const int shown[2] = {CALL_ADD_RIGHT, TEST_ALONE};
     puts("\nCost at 1,000 letters over cost at 125: 8 times the letters, 6.9 times the bytes of the store");
     heading("", PLAIN);
     for (int p = 0; p < 2; p++) {
         printf("  %-24s", calls[shown[p]].name);
         for (int w = 0; w < WORDS; w++) {
-            measure_growth(shown[p], w, panels[p].us[w]);
-            printf("%12.1f ", panels[p].us[w][POINTS - 1] / panels[p].us[w][0]);
+            measure_growth(shown[p], w, panels[p].at[w]);
+            printf("%12.1f ", panels[p].at[w][POINTS - 1] / panels[p].at[w][0]);
         }
         puts("");
     }

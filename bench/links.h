@@ -30,17 +30,26 @@ static inline struct view view_of(const uint8_t *b, enum side side)
 static inline uint8_t raw(struct view v, size_t i) { return v.first[v.step * (ptrdiff_t)i]; }
 
 /* The first row from `row` on along the links whose palindrome, ending the first k letters, has d's partner just before
- * it, and the imaginary one where none has. */
-static inline unsigned walk(const uint8_t *b, struct view v, size_t k, unsigned row, uint8_t d)
+ * it, and the imaginary one where none has; and how many rows come before it. */
+static inline unsigned walk_counted(const uint8_t *b, struct view v, size_t k, unsigned row, uint8_t d, unsigned *passed)
 {
     uint8_t sought = v.looked_for[d];
+    *passed = 0;
     while (row != IMAGINARY) {
         size_t stored = get(b, row, LENGTH);
         if (stored <= k && raw(v, k - stored) == sought)
             break;
         row = get(b, row, LINK);
+        ++*passed;
     }
     return row;
+}
+
+/* The same where nobody asks how many. */
+static inline unsigned walk(const uint8_t *b, struct view v, size_t k, unsigned row, uint8_t d)
+{
+    unsigned passed;
+    return walk_counted(b, v, k, row, d, &passed);
 }
 
 /* Whether a letter makes a palindrome around the row at which its walk ended: around the imaginary one a letter stands by

@@ -39,7 +39,7 @@ static void learn(const uint8_t *more)
 {
     for (int i = 0; i < RUN; i++) {
         known[i].shorter = end_row(store, RIGHT);
-        known[i].again = bare_add(store, RIGHT, more[i]) == 0;
+        known[i].again = mirror_flag(bare_add(store, RIGHT, more[i])) == 0;
     }
     for (int i = RUN; i-- > 0;)
         bare_remove(store, RIGHT, known[i]);

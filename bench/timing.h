@@ -47,12 +47,7 @@ struct pair time_fill(int word, size_t n, int samples);
 struct pair time_fasta(int word, size_t n, int samples);
 struct pair time_masked_fasta(int word, size_t n, int samples);
 
-/* Cost against n, for each word: one panel of the drawing of growth. */
+/* The sizes at which the growth of a call's cost is measured. */
 enum { POINTS = 8, POINT_STEP = 125 };
-struct panel {
-    const char *title;
-    double us[5][POINTS];
-};
-void draw(FILE *out, const struct panel *panels, int count);
 
 #endif
