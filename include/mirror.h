@@ -45,6 +45,10 @@ uint64_t mirror_open(uint8_t *store, size_t length, uint64_t capacity);
 /* Opens an inverted record; all else as mirror_open. Its repeats have even length, and letters may stand without any: then
  * the longest is length 0 at place 0, and an end without one answers row 1, the empty string's, and no flag. */
 uint64_t mirror_open_inverted(uint8_t *store, size_t length, uint64_t capacity);
+/* An addition at the right of a plain record reports how much its search passed as the first number: of the repeats that end
+ * the record, longest first, then the empty and the imaginary string, those before the first that has the new letter just to
+ * its left; the imaginary one always serves, so the first letter of a record reports 1. At the left, and in an inverted
+ * record, it reports 0. */
 uint64_t mirror_add_left(uint8_t *store, size_t length, uint64_t letter);
 uint64_t mirror_add_right(uint8_t *store, size_t length, uint64_t letter);
 uint64_t mirror_remove_left(uint8_t *store, size_t length);

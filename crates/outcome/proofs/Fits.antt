@@ -121,7 +121,7 @@ module _ {b : Word} (g : Good b) where
   reported-small atRight c = go (eqb (readingIn b) (readingNumber asPlain))
     where
       go : (t : Bool) → cond t (searchSteps plain c (lettersIn b)) 0 < 65536
-      go true = omega (arith, steps-few plain (λ x. refl) c (lettersIn b), few)
+      go true = omega (arith, steps-few plain (λ x. refl) c (lettersIn b) refl, few)
       go false = omega arith
 
   added-fits : (e : End) (c : ℕ) (l : Lent) → refusal (ruleOf b) (viewIn b l) (add e c) ≡ 0

@@ -137,10 +137,10 @@ module _ (σ : ℕ → ℕ) (inv : SelfInverse σ) (c : ℕ) (s : Word) where
       let v : Node = spelt (longestSuffix σ s) in
       omega (arith, steps-start σ c s, steps-within (suc (reach v)) v (omega arith) (candidate-start σ c s))
 
-  -- so it passes few
-  pub steps-few : searchSteps σ c s ≤ length s + 2
-  steps-few = omega (arith, steps-most, suffix-length (longest-suffix σ s .suffix))
-
   -- a letter that is its own partner leaves some palindrome at the end
   pub some-grown : σ c ≡ c → 1 ≤ length grown
   some-grown e = omega (arith, suffix-length (longest-suffix σ (s ++ (c ∷ [])) .most (c ∷ []) (letter-symmetric σ c e) (suffix-append s (c ∷ []))))
+
+  -- so the search for it passes at most as many as the record then has letters
+  pub steps-few : σ c ≡ c → searchSteps σ c s ≤ length s + 1
+  steps-few e = omega (arith, steps-most, some-grown e, suffix-length (longest-suffix σ s .suffix))
