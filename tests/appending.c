@@ -130,6 +130,16 @@ static void broken(void)
     uint64_t again = mirror_first(mirror_add_right(store, sizeof store, 'C'));
     must("with a removal, four letters report 8, over 7", 8, sum + again);
 
+    /* 001, section 3.2: a third of the calls add A, the others add another letter and remove it, again and again */
+    enum { THIRD = 341 };
+    open_empty(MOST);
+    while (size < THIRD) take('A');
+    for (int i = 0; i < THIRD; i++) {
+        sum += mirror_first(mirror_add_right(store, sizeof store, 'C'));
+        must("C goes again", 0, mirror_refusal(mirror_remove_right(store, sizeof store)));
+    }
+    must("the sum is quadratic", THIRD + THIRD * (THIRD + 1), sum);
+
     open_empty(8);
     take('A');
     must("A at the left reports 0", 0, mirror_first(mirror_add_left(store, sizeof store, 'A')));

@@ -131,7 +131,7 @@ module _ (σ : ℕ → ℕ) (inv : SelfInverse σ) (c : ℕ) (s : Word) where
       go ih (inl p) = omega (arith, steps-served σ c s (spelt w) named a p, ap length (walk-hit σ inv c s (spelt w) a p), length-append w (c ∷ []))
       go ih (inr p) = omega (arith, steps-passed σ c s (spelt w) named a p, ih (walk-link σ c s (spelt w) a p), link-falls w)
 
-  -- 02 (xiii), for the sum: what a search passes is paid for by the longest palindrome at the end, which an addition makes longer by at most two
+  -- 02 (xiii), for the sum; 001 proposition 2.5, the estimate of k: what a search passes is paid for by the longest palindrome at the end, which an addition makes longer by at most two
   pub steps-most : searchSteps σ c s + length grown ≤ length (longestSuffix σ s) + 2
   steps-most =
       let v : Node = spelt (longestSuffix σ s) in

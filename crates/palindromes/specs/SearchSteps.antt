@@ -10,7 +10,7 @@ use Rattle.palindromes.specs.Record.{suffixes}
 use Rattle.palindromes.specs.End.{End, atLeft, atRight}
 use Rattle.palindromes.specs.Node.{Node, imaginary, spelt}
 
--- 02 (xiii) "line up the repeats that end the record, longest first, then the empty and the imaginary string"; 001 section 2.2, the path along the suffix links
+-- 02 (xiii) "line up the repeats that end the record, longest first, then the empty and the imaginary string"; 001 proposition 2.5 "the suffix-palindromes of T in the order of decreasing length"
 unfoldable pub candidates : (ℕ → ℕ) → Word → List Node
 candidates σ s = map spelt (keep (isPalindrome σ) (suffixes s)) ++ (spelt [] ∷ imaginary ∷ [])
 
