@@ -34,7 +34,8 @@ pub struct Search {
 }
 
 // Whether the letter just before row's palindrome, as it stands, is c, the palindrome ending the first
-// k letters.
+// k letters. The length that it reads is a number of two bytes: so a walk, along which lengths fall, can
+// count the rows that it passes.
 pub fn faces(b: &[u8], f: Frame, side: Side, k: usize, row: usize, c: u8) -> bool
     requires { ⌜ Within (now b) f k ⌝ }
     requires { ⌜ (24 * row + 24 ≤ length (now b)) × (0 < cell (now b) row 0) ⌝ }
@@ -58,8 +59,9 @@ fn facing_letter(side: Side, d: u8, want: u8) -> u8
     }
 }
 
-// The first row from `start` along the links that has `want`, the partner of d, just before it; the
-// imaginary string has d itself.
+// The first row from `start` along the links that has `want`, the partner of d, just before it, and how
+// many come before that row; the imaginary string has d itself. The count costs nothing where nobody
+// takes it, since each caller gets the loop in its own place.
 pub fn walk(b: &[u8], f: Frame, side: Side, k: usize, start: usize, d: u8, want: u8) -> Search
     requires { ⌜ Within (now b) f k ⌝ }
     requires { ⌜ Chain (now b) start ⌝ }
