@@ -457,6 +457,15 @@ static void searches_after_turns(uint64_t capacity)
     key("plain: AAAA, AAA, AA, A and the empty string are passed", 5, mirror_first(mirror_add_right(store, length, 'C')));
 }
 
+/* the longest search that there can be: 1,023 A and the empty string are passed for the last letter */
+static void longest_search(void)
+{
+    char letters[1024] = "";
+    memset(letters, 'A', 1023);
+    record(mirror_open, letters, 1024, 0);
+    key("C after 1,023 A", 1ull << 8 | 1025ull << 16 | 1024ull << 32, mirror_add_right(store, length, 'C'));
+}
+
 /* the keys that ask for no repeat */
 static void either_reading(opening *open)
 {
@@ -495,6 +504,7 @@ int main(void)
         searches_after_turns(capacities[k]);
     }
     longest_of_all();
+    longest_search();
     printf("%lu keys\n", compared);
     return 0;
 }
