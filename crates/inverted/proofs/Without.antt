@@ -3,21 +3,26 @@
 -- definitions of the answers and on the row of the empty string.
 use Prim.Native.Nat.{ℕ, _*_, _≤_, _<_}
 use native.Mathlib.Omega.{arith}
-use mathlib.Core.Path.{_≡_, refl, ap, ap₂, _∙_}
+use mathlib.Core.Path.{_≡_, refl, sym, ap, ap₂, _∙_}
 use mathlib.Core.Bool.{Bool, true, false, cond, not}
-use mathlib.Core.List.{List, [], _∷_, map}
+use mathlib.Core.List.{List, [], _∷_, _++_, map}
 use lib.Dec.{eqb}
 use lib.ListN.{length, replicate}
-use borrow.Author.Tests.{ltb-true, ne-eqb}
+use borrow.Author.Tests.{ltb-true, eqb-true, ne-eqb}
 use Rattle.palindromes.specs.Word.{Word, keep}
+use Rattle.palindromes.specs.Palindrome.{plain}
+use Rattle.palindromes.specs.Reading.{readingNumber, ruleIn}
 use Rattle.palindromes.specs.Place.{stands, frequency, startsWith, standsOnce, firstPlace}
-use Rattle.palindromes.specs.Record.{palindromes, greatest, least, longestLength, longestPlace}
-use Rattle.palindromes.specs.End.{End}
+use Rattle.palindromes.specs.Record.{palindromes, greatest, least, longestLength, longestPlace, longestSuffix}
+use Rattle.palindromes.specs.End.{End, atLeft, atRight, added, longestAt}
 use Rattle.palindromes.specs.Node.{spelt}
 use Rattle.palindromes.specs.Bed.{isIdentifier, bedLines, listing}
+use Rattle.palindromes.specs.SearchSteps.{searchSteps, reportedSteps}
 use Rattle.palindromes.specs.Refusal.{theLongest, theLongestAt, list, add, ask, refusal}
 use Rattle.palindromes.proofs.Places.{frequency-cons, stands-is, stands-empty}
-use Rattle.store.specs.Layout.{lettersIn}
+use Rattle.palindromes.proofs.Readings.{rule-of-plain}
+use Rattle.palindromes.proofs.SearchSteps.{some-grown}
+use Rattle.store.specs.Layout.{readingIn, lettersIn}
 use Rattle.store.specs.Good.{ruleOf, Good}
 use Rattle.transitions.specs.Rows.{rowOf}
 use Rattle.transitions.specs.Addition.{longestAfter, bringsIn, rowAfter}
@@ -82,9 +87,23 @@ module _ (b : Word) (none : palindromes (ruleOf b) (lettersIn b) ≡ []) where
 
 -- ---- additions
 
--- an addition that makes no repeat answers 0 and row 0
+-- it reports nothing of its search: in a plain record it would make a repeat, for a letter is one
+none-reported : (e : End) (c : ℕ) (b : Word) → longestAfter e c b ≡ [] → reportedSteps (readingIn b) e c (lettersIn b) ≡ 0
+unfolding reportedSteps readingNumber longestAfter longestAt added
+none-reported atLeft c b h = refl
+none-reported atRight c b h = go (eqb (readingIn b) 0) refl
+  where
+    go : (t : Bool) → eqb (readingIn b) 0 ≡ t → cond t (searchSteps plain c (lettersIn b)) 0 ≡ 0
+    go true f =
+        let rule : ruleOf b ≡ plain = ap ruleIn (eqb-true (readingIn b) 0 f) ∙ rule-of-plain in
+        let none : longestSuffix plain (lettersIn b ++ (c ∷ [])) ≡ [] = ap (λ (σ : ℕ → ℕ). longestSuffix σ (lettersIn b ++ (c ∷ []))) (sym rule) ∙ h in
+        absurd (omega (arith, ap length none, some-grown plain (λ y. refl) c (lettersIn b) refl))
+    go false f = refl
+
+-- an addition that makes no repeat answers 0, row 0 and nothing reported
 pub addition-without : (e : End) (c : ℕ) (b : Word) (l : Lent) → longestAfter e c b ≡ [] → acceptedOutcome (add e c) b l .reply ≡ accepted false 0 0 0
 unfolding acceptedOutcome changed bringsIn
 addition-without e c b l h =
     let not-new : bringsIn e c b ≡ false = ap (λ (w : Word). not (stands w (lettersIn b))) h ∙ ap not (stands-is [] (lettersIn b) (stands-empty (lettersIn b))) in
-    reply-of-added (bringsIn e c b) (rowAfter e c b) ∙ ap (λ (t : Bool). accepted t (cond t (rowAfter e c b) 0) 0 0) not-new
+    reply-of-added (bringsIn e c b) (rowAfter e c b) (reportedSteps (readingIn b) e c (lettersIn b))
+    ∙ ap₂ (λ (t : Bool) (n : ℕ). accepted t (cond t (rowAfter e c b) 0) n 0) not-new (none-reported e c b h)
