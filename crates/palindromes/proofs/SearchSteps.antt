@@ -95,6 +95,11 @@ module _ (σ : ℕ → ℕ) where
         let f = not-true-false (member (σ c ∷ w) (suffixes s)) (λ t. p (suffixes-true (σ c ∷ w) s t .1)) in
         steps-link w (a .symmetric) ∙ ap (λ (t : Bool). cond t 0 (stepsFrom (linkOf σ (spelt w)) + 1)) f
 
+  -- the first letter of a record: the empty word is passed, and the imaginary one serves
+  pub steps-first : (c : ℕ) → searchSteps σ c [] ≡ 1
+  unfolding searchSteps candidates serves passedBefore suffixes keep member
+  steps-first c = refl
+
 module _ (σ : ℕ → ℕ) (inv : SelfInverse σ) (c : ℕ) (s : Word) where
   -- ---- what it costs
 
