@@ -7,6 +7,7 @@ use lib.Dec.{leb}
 use lib.ListN.{length}
 use borrow.Author.Tests.{leb-true, leb-false}
 use Rattle.palindromes.specs.Word.{Word, allLetters, member}
+use Rattle.palindromes.specs.Mismatch.{reportedMismatch}
 use Rattle.palindromes.specs.Record.{palindromes}
 use Rattle.palindromes.specs.Node.{spelt}
 use Rattle.palindromes.specs.Refusal.{ask, refusal, find}
@@ -54,13 +55,14 @@ findable p b n v z =
     text s k true x = x
     text s k false x = absurd (omega (arith, find-letters b nothing p (λ e. omega (arith, ap length e)) x))
 
--- the row of what a search answers fits its two bytes
-pub found-fits : (p b : Word) (a : Found) → Findable p b → a ≡ foundOf (member p (palindromes (ruleOf b) (lettersIn b))) (rowOf b (spelt p)) → foundReply a .row < 65536
-unfolding answerTo
-found-fits p b a h q = subst (λ (x : Found). foundReply x .row < 65536) (sym q) (answer-fits (h .good) (find p) nothing (h .clear) .row)
+module _ (p b : Word) (a : Found) (h : Findable p b) (q : a ≡ foundOf (member p (palindromes (ruleOf b) (lettersIn b))) (rowOf b (spelt p)) (reportedMismatch (ruleOf b) p)) where
+  -- the row and the number of what a search answers fit their two bytes each
+  pub found-fits : (foundReply a .row < 65536) × (foundReply a .first < 65536)
+  unfolding answerTo
+  found-fits =
+      let fits = answer-fits (h .good) (find p) nothing (h .clear) in
+      subst (λ (x : Found). (foundReply x .row < 65536) × (foundReply x .first < 65536)) (sym q) (fits .row, fits .first)
 
-pub found : (p b : Word) (a : Found) {x : ℕ} → Findable p b → a ≡ foundOf (member p (palindromes (ruleOf b) (lettersIn b))) (rowOf b (spelt p)) → x ≡ packed (foundReply a)
-    → Promise (ask (find p)) b nothing x b nothing
-unfolding acceptedOutcome answerTo lentAfter changed
-found p b a h q e =
-    carried (ask (find p)) b nothing (h .good) (h .clear) (record { reply = e ∙ ap (λ (x : Found). packed (foundReply x)) q; store = refl; lent = refl })
+  pub found : {x : ℕ} → x ≡ packed (foundReply a) → Promise (ask (find p)) b nothing x b nothing
+  unfolding acceptedOutcome answerTo lentAfter changed
+  found e = carried (ask (find p)) b nothing (h .good) (h .clear) (record { reply = e ∙ ap (λ (x : Found). packed (foundReply x)) q; store = refl; lent = refl })

@@ -4,8 +4,7 @@ ghost use Rattle.palindromes.specs.Refusal.{ask, find};
 ghost use Rattle.outcome.specs.Promise.{nothing, Asked};
 ghost use Rattle.outcome.specs.Verdict.{Verdict};
 use alphabet::all_letters;
-use outcome::answers::Found;
-use outcome::pack;
+use outcome::answers::answer_found;
 use outcome::refuse;
 
 // The refusal number of finding a piece, 0 where it can be searched.
@@ -24,7 +23,8 @@ fn judge_find(store: &[u8], piece: &[u8]) -> u64
     0
 }
 
-// Whether a piece is a repeat of the record, and its row.
+// Whether a piece is a repeat of the record, and its row; and where the piece and its reversal
+// disagree first.
 pub fn find_piece(store: &[u8], piece: &[u8]) -> u64
     ensures { λ r. ⌜ Asked (find (now (piece .entry))) (now (store .entry)) nothing r nothing ⌝ }
 {
@@ -32,8 +32,5 @@ pub fn find_piece(store: &[u8], piece: &[u8]) -> u64
     if number != 0 {
         return refuse(number);
     }
-    let Found::At(row) = search::find(store, piece) else {
-        return pack(false, 0, 0, 0);
-    };
-    pack(true, row, 0, 0)
+    answer_found(search::find(store, piece))
 }

@@ -1,4 +1,5 @@
--- Every starred answer is right, at every capacity of its line: one claim over the whole table, `known-answers`; every answer of the inverted records, `inverted-answers`; and what additions pass, `search-answers`.
+-- Every starred answer is right, at every capacity of its line: one claim over the whole table, `known-answers`; every answer of the inverted records, `inverted-answers`; what additions pass, `search-answers`; and where
+-- pieces disagree with their reversals, `mismatch-answers`.
 -- An answer depends on the capacity only through the test whether the record is full, which changes at most once as the capacity grows. So an answer that is
 -- right at the least and at the greatest capacity of its line is right at all between, and the two ends are computed, for the whole table at once.
 -- Assumes nothing.
@@ -11,8 +12,9 @@ use native.Mathlib.Omega.{arith}
 use lib.Dec.{leb}
 use lib.ListN.{length}
 use borrow.Author.Tests.{leb-true, leb-false, le-leb, lt-leb}
-use Rattle.palindromes.specs.Word.{Word, isLetter, allLetters, isEmpty, sameWord, member, keep, distinct}
-use Rattle.palindromes.specs.Palindrome.{mirror, isSymmetric, isPalindrome}
+use Rattle.palindromes.specs.Word.{Word, isLetter, allLetters, isEmpty, sameWord, mismatchFrom, member, keep, distinct}
+use Rattle.palindromes.specs.Palindrome.{mirror, firstMismatch, isSymmetric, isPalindrome}
+use Rattle.palindromes.specs.Mismatch.{reportedMismatch}
 use Rattle.palindromes.specs.Reading.{complement}
 use Rattle.palindromes.specs.Place.{startsWith, placesFrom, places, first, firstPlace}
 use Rattle.palindromes.specs.Record.{prefixes, suffixes, suffixesOfEach, stretches, palindromes, count, greatest, least, longestLength, longestPlace, longestSuffix}
@@ -24,6 +26,7 @@ use Rattle.known_answers.specs.KnownAnswer.{Query, howMany, whichLongest
 use Rattle.known_answers.specs.Starred.{starred}
 use Rattle.known_answers.specs.Inverted.{inverted}
 use Rattle.known_answers.specs.Searches.{searches}
+use Rattle.known_answers.specs.Mismatches.{mismatches}
 
 -- two capacities at which the record is full, or not, alike answer alike
 same-answer : (σ : ℕ → ℕ) (k m : ℕ) (s : Word) (query : Query) → leb k (length s) ≡ leb m (length s) → answer σ k s query ≡ answer σ m s query
@@ -65,18 +68,23 @@ all-between [] p = none-left
 all-between (x ∷ xs) p = one-more (right-between x (cc)) (all-between xs (cc))
 
 computed : map at-ends starred ≡ map wanted starred
-unfolding starred answer unlessRefused viewOf refusal faults questionFaults fault firstFault isLetter allLetters isEmpty sameWord member keep distinct mirror isSymmetric isPalindrome startsWith placesFrom places first firstPlace prefixes suffixes suffixesOfEach stretches palindromes count greatest least longestLength longestPlace longestSuffix added withoutLast withoutFirst removed letterAt newIn linkOf innerOf isNode
+unfolding starred answer unlessRefused viewOf refusal faults questionFaults fault firstFault isLetter allLetters isEmpty sameWord mismatchFrom member keep distinct mirror firstMismatch isSymmetric isPalindrome reportedMismatch startsWith placesFrom places first firstPlace prefixes suffixes suffixesOfEach stretches palindromes count greatest least longestLength longestPlace longestSuffix added withoutLast withoutFirst removed letterAt newIn linkOf innerOf isNode
 computed = refl
 
 -- and the same for inverted records
 computed-inverted : map at-ends inverted ≡ map wanted inverted
-unfolding inverted complement answer unlessRefused viewOf refusal faults questionFaults fault firstFault isLetter allLetters isEmpty sameWord member keep distinct mirror isSymmetric isPalindrome startsWith placesFrom places first firstPlace prefixes suffixes suffixesOfEach stretches palindromes count greatest least longestLength longestPlace longestSuffix added withoutLast withoutFirst removed letterAt newIn linkOf innerOf isNode
+unfolding inverted complement answer unlessRefused viewOf refusal faults questionFaults fault firstFault isLetter allLetters isEmpty sameWord mismatchFrom member keep distinct mirror firstMismatch isSymmetric isPalindrome reportedMismatch startsWith placesFrom places first firstPlace prefixes suffixes suffixesOfEach stretches palindromes count greatest least longestLength longestPlace longestSuffix added withoutLast withoutFirst removed letterAt newIn linkOf innerOf isNode
 computed-inverted = refl
 
 -- and for what additions at the right pass
 computed-searches : map at-ends searches ≡ map wanted searches
-unfolding searches answer unlessRefused viewOf refusal faults fault firstFault isLetter isEmpty sameWord member keep mirror isSymmetric isPalindrome suffixes candidates serves passedBefore searchSteps
+unfolding searches answer unlessRefused viewOf refusal faults fault firstFault isLetter isEmpty sameWord mismatchFrom member keep mirror firstMismatch isSymmetric isPalindrome suffixes candidates serves passedBefore searchSteps
 computed-searches = refl
+
+-- and for where pieces disagree with their reversals
+computed-mismatches : map at-ends mismatches ≡ map wanted mismatches
+unfolding mismatches complement answer unlessRefused viewOf refusal faults questionFaults fault firstFault isLetter allLetters isEmpty sameWord mismatchFrom member keep distinct mirror firstMismatch isSymmetric isPalindrome reportedMismatch prefixes suffixes suffixesOfEach stretches palindromes
+computed-mismatches = refl
 
 -- the twelve starred sittings of document 01
 pub known-answers : AllRight starred
@@ -89,3 +97,7 @@ inverted-answers = all-between inverted computed-inverted
 -- what additions at the right of a plain record pass, AC's 1 and 2 among them
 pub search-answers : AllRight searches
 search-answers = all-between searches computed-searches
+
+-- where pieces disagree with their reversals, CCAC's 2 among them
+pub mismatch-answers : AllRight mismatches
+mismatch-answers = all-between mismatches computed-mismatches

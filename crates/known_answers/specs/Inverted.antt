@@ -6,7 +6,7 @@ use Rattle.palindromes.specs.Word.{Word}
 use Rattle.palindromes.specs.Reading.{complement}
 use Rattle.palindromes.specs.End.{atLeft, atRight}
 use Rattle.palindromes.specs.Node.{spelt}
-use Rattle.known_answers.specs.KnownAnswer.{howMany, whichLongest, addition, removal, theLink, theInner, look, refused, number, lengthAt, comesIn, goesOut, row, absent, KnownAnswer, from, A, C, G, T}
+use Rattle.known_answers.specs.KnownAnswer.{howMany, whichLongest, addition, removal, theLink, theInner, look, refused, number, lengthAt, comesIn, goesOut, row, found, absent, KnownAnswer, from, A, C, G, T}
 
 abbrev AT : Word
 AT = A ∷ T ∷ []
@@ -26,10 +26,10 @@ AGTCT = A ∷ G ∷ T ∷ C ∷ T ∷ []
 unfoldable pub inverted : List KnownAnswer
 inverted =
     from complement 6 GAATTC howMany (number 3)
-    ∷ from complement 6 GAATTC (look AT) (row (spelt AT))
-    ∷ from complement 6 GAATTC (look AATT) (row (spelt AATT))
-    ∷ from complement 6 GAATTC (look GAATTC) (row (spelt GAATTC))
-    ∷ from complement 6 GAATTC (look (A ∷ [])) absent
+    ∷ from complement 6 GAATTC (look AT) (found (spelt AT) 0)
+    ∷ from complement 6 GAATTC (look AATT) (found (spelt AATT) 0)
+    ∷ from complement 6 GAATTC (look GAATTC) (found (spelt GAATTC) 0)
+    ∷ from complement 6 GAATTC (look (A ∷ [])) (absent 1)
     ∷ from complement 6 GAATTC whichLongest (lengthAt 6 0)
     ∷ from complement 6 GAATTC (theInner AATT) (row (spelt AT))
     ∷ from complement 6 GAATTC (theInner AT) (row (spelt []))

@@ -6,6 +6,7 @@ use mathlib.Core.List.{List}
 use mathlib.Core.Option.{none}
 use Prim.Native.Nat.{zero, suc}
 use Rattle.palindromes.specs.Word.{Word, member}
+use Rattle.palindromes.specs.Mismatch.{reportedMismatch}
 use Rattle.palindromes.specs.Record.{palindromes, count, longestLength, longestPlace}
 use Rattle.palindromes.specs.End.{End, atRight, added, removed, letterAt, newIn}
 use Rattle.palindromes.specs.Node.{Node, spelt, linkOf, innerOf, isNode}
@@ -22,7 +23,7 @@ pub data Query : Type 0 where
   search : ℕ → Query
 
 -- what is answered: a refusal's number; a number; a length and a place; the repeats that an addition brings in, and the count after it; the letter
--- and the repeats that a removal takes out, and the count after it; a row, by what it holds; absent
+-- and the repeats that a removal takes out, and the count after it; a row, by what it holds; a piece's row, or that it is absent, and its first pair that disagrees
 pub data Answer : Type 0 where
   refused : ℕ → Answer
   number : ℕ → Answer
@@ -30,7 +31,8 @@ pub data Answer : Type 0 where
   comesIn : List Word → ℕ → Answer
   goesOut : ℕ → List Word → ℕ → Answer
   row : Node → Answer
-  absent : Answer
+  found : Node → ℕ → Answer
+  absent : ℕ → Answer
 
 -- a good store of the given capacity that shows the given letters
 unfoldable pub viewOf : ℕ → Word → View
@@ -51,7 +53,8 @@ answer σ k s (removal e) =
 answer σ k s (theLink w) = cond (isNode σ s (spelt w)) (row (linkOf σ (spelt w))) (refused 7)
 answer σ k s (theInner w) = cond (isNode σ s (spelt w)) (row (innerOf (spelt w))) (refused 7)
 answer σ k s (search c) = unlessRefused (refusal σ (viewOf k s) (add atRight c)) (number (searchSteps σ c s))
-answer σ k s (look w) = unlessRefused (refusal σ (viewOf k s) (ask (find w))) (cond (member w (palindromes σ s)) (row (spelt w)) absent)
+answer σ k s (look w) =
+    unlessRefused (refusal σ (viewOf k s) (ask (find w))) (cond (member w (palindromes σ s)) (found (spelt w) (reportedMismatch σ w)) (absent (reportedMismatch σ w)))
 
 -- a line of a table: the partner rule, the letters, the least and the greatest capacity for which the answer is claimed, what is asked, and the answer
 pub record KnownAnswer : Type 0 where

@@ -2,3 +2,4 @@ pub mod KnownAnswer
 pub mod Starred
 pub mod Inverted
 pub mod Searches
+pub mod Mismatches

@@ -5,7 +5,7 @@ use Rattle.palindromes.specs.Word.{Word}
 use Rattle.palindromes.specs.Palindrome.{plain}
 use Rattle.palindromes.specs.End.{atLeft, atRight}
 use Rattle.palindromes.specs.Node.{spelt}
-use Rattle.known_answers.specs.KnownAnswer.{howMany, whichLongest, addition, removal, theLink, theInner, look, refused, number, lengthAt, comesIn, goesOut, row, absent, KnownAnswer, from, A, C, G}
+use Rattle.known_answers.specs.KnownAnswer.{howMany, whichLongest, addition, removal, theLink, theInner, look, refused, number, lengthAt, comesIn, goesOut, row, found, absent, KnownAnswer, from, A, C, G}
 
 abbrev AAAA : Word
 AAAA = A ∷ A ∷ A ∷ A ∷ []
@@ -36,6 +36,6 @@ starred =
     ∷ from plain 6 ACCACG (theInner (A ∷ C ∷ C ∷ A ∷ [])) (row (spelt (C ∷ C ∷ [])))
     ∷ from plain 6 ACGAAG howMany (number 5)
     ∷ from plain 6 ACGAAG whichLongest (lengthAt 4 2)
-    ∷ from plain 6 ACCACG (look (C ∷ C ∷ [])) (row (spelt (C ∷ C ∷ [])))
-    ∷ from plain 6 ACCACG (look (G ∷ G ∷ [])) absent
+    ∷ from plain 6 ACCACG (look (C ∷ C ∷ [])) (found (spelt (C ∷ C ∷ [])) 0)
+    ∷ from plain 6 ACCACG (look (G ∷ G ∷ [])) (absent 0)
     ∷ []

@@ -9,6 +9,7 @@ use lib.Dec.{eqb}
 use lib.ListN.{length, getD, length-append}
 use Rattle.palindromes.specs.Word.{Word, isLetter, allLetters, keep, member}
 use Rattle.palindromes.specs.Palindrome.{plain}
+use Rattle.palindromes.specs.Mismatch.{reportedMismatch}
 use Rattle.palindromes.specs.Reading.{Reading, asPlain, readingNumber}
 use Rattle.palindromes.specs.Record.{palindromes, count, least, longestPlace}
 use Rattle.palindromes.specs.End.{End, atLeft, atRight, letterAt}
@@ -20,6 +21,7 @@ use Rattle.palindromes.proofs.Palindromes.{count-length}
 use Rattle.palindromes.proofs.Letters.{letter-byte}
 use Rattle.palindromes.specs.SearchSteps.{searchSteps, reportedSteps}
 use Rattle.palindromes.proofs.SearchSteps.{steps-few}
+use Rattle.palindromes.proofs.Mismatch.{mismatch-small}
 use Rattle.bed.proofs.Listing.{listing-most}
 use Rattle.eertree.proofs.Rows.{reachOf, row-reach-most}
 use Rattle.store.specs.Layout.{readingIn, usedIn, lettersIn}
@@ -103,9 +105,9 @@ module _ {b : Word} (g : Good b) where
   answer-fits (spell r) l z = fits _ (omega arith) (spelling-small r (spell-used b l r z)) (omega arith)
   answer-fits (find p) l z = go (member p (palindromes (ruleOf b) (lettersIn b)))
     where
-      go : (t : Bool) → Fits (foundReply (foundOf t (rowOf b (spelt p))))
-      go true = fits _ (row-of-small g (spelt p)) (omega arith) (omega arith)
-      go false = fits _ (omega arith) (omega arith) (omega arith)
+      go : (t : Bool) → Fits (foundReply (foundOf t (rowOf b (spelt p)) (reportedMismatch (ruleOf b) p)))
+      go true = fits _ (row-of-small g (spelt p)) (mismatch-small (ruleOf b) p) (omega arith)
+      go false = fits _ (omega arith) (mismatch-small (ruleOf b) p) (omega arith)
   answer-fits (list name) l z =
       fits _ (omega arith) (omega (arith, listing-most (ruleOf b) name (lettersIn b) (list-named b l name z) (omega (arith, few)), few)) (omega arith)
 

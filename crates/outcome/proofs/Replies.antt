@@ -15,7 +15,7 @@ unfolding removedReply
 reply-of-removed true letter row = refl
 reply-of-removed false letter row = refl
 
-pub reply-of-found : (stands : Bool) (row : ℕ) → foundReply (foundOf stands row) ≡ accepted stands (cond stands row 0) 0 0
+pub reply-of-found : (stands : Bool) (row pair : ℕ) → foundReply (foundOf stands row pair) ≡ accepted stands (cond stands row 0) pair 0
 unfolding foundAnswer
-reply-of-found true row = refl
-reply-of-found false row = refl
+reply-of-found true row pair = refl
+reply-of-found false row pair = refl

@@ -29,15 +29,15 @@ unfoldable pub removedReply : Removed → Reply
 removedReply (Gone letter row) = accepted true row letter 0
 removedReply (Kept letter) = accepted false 0 letter 0
 
--- 01 "find": the piece is a repeat of the record, and this is its row, or it is absent
-abbrev pub foundOf : (stands : Bool) (row : ℕ) → Found
-foundOf true row = At row
-foundOf false row = Absent
+-- 01 "find": the piece is a repeat of the record, and this is its row, or it is absent; 02 (x) the first pair that disagrees, in either case
+abbrev pub foundOf : (stands : Bool) (row pair : ℕ) → Found
+foundOf true row pair = At row pair
+foundOf false row pair = Absent pair
 
--- 01 "answers its row, or absent": the number 0, and 1 and the row, or 0 and row 0
+-- 01 "answers its row, or absent": the number 0, and 1 and the row, or 0 and row 0; 02 (x) "find hands the number on beside its row or absence", first
 unfoldable pub foundAnswer : Found → Answer
-foundAnswer (At row) = answer true row 0 0
-foundAnswer Absent = answer false 0 0 0
+foundAnswer (At row pair) = answer true row pair 0
+foundAnswer (Absent pair) = answer false 0 pair 0
 
 abbrev pub foundReply : Found → Reply
 foundReply f = answered (foundAnswer f)

@@ -6,6 +6,7 @@ use mathlib.Core.Option.{none, some}
 use lib.ListN.{length, getD, replicate}
 use lib.Seq.{sets}
 use Rattle.palindromes.specs.Word.{Word, member}
+use Rattle.palindromes.specs.Mismatch.{reportedMismatch}
 use Rattle.palindromes.specs.Reading.{readingNumber}
 use Rattle.palindromes.specs.Place.{standsOnce}
 use Rattle.palindromes.specs.Record.{palindromes, count, longestLength, longestPlace}
@@ -70,7 +71,7 @@ answerTo (theLongestAt e) b = answer (standsOnce (longestBefore e b) (lettersIn 
 answerTo (theLetter i) b = answer false 0 (getD (lettersIn b) i 0) 0
 answerTo (theRow r) b = answer false (rowOf b (linkOf (ruleOf b) (nodeIn b r))) (twosComplement (lengthOf (nodeIn b r))) (rowOf b (innerOf (nodeIn b r)))
 answerTo (spell r) b = answer false 0 (length (spellingOf (nodeIn b r))) 0
-answerTo (find p) b = foundAnswer (foundOf (member p (palindromes (ruleOf b) (lettersIn b))) (rowOf b (spelt p)))
+answerTo (find p) b = foundAnswer (foundOf (member p (palindromes (ruleOf b) (lettersIn b))) (rowOf b (spelt p)) (reportedMismatch (ruleOf b) p))
 answerTo (list name) b = answer false 0 (length (listing (ruleOf b) name (lettersIn b))) 0
 
 -- and what it leaves in the buffers that are lent with it

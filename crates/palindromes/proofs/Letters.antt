@@ -30,6 +30,10 @@ letter-cases P a c g t x h = ⊎-elim acg (λ e. is 84 e t) (either-true (eqb x 
 pub letter-byte : (c : ℕ) → isLetter c ≡ true → c < 256
 letter-byte = letter-cases (λ x. x < 256) (omega arith) (omega arith) (omega arith) (omega arith)
 
+-- and not 0
+pub letter-not-zero : (c : ℕ) → isLetter c ≡ true → 0 < c
+letter-not-zero = letter-cases (λ x. 0 < x) (omega arith) (omega arith) (omega arith) (omega arith)
+
 -- ---- words of letters
 
 pub letter-of : (s : Word) (k : ℕ) → k < length s → allLetters s ≡ true → isLetter (getD s k 0) ≡ true

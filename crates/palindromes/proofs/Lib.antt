@@ -19,3 +19,4 @@ pub mod Listing
 pub mod Search
 pub mod SearchSteps
 pub mod Readings
+pub mod Mismatch

@@ -173,7 +173,7 @@ module _ (σ : ℕ → ℕ) where
   -- ---- letter by letter
 
   -- a letter of the mirror is the partner of the letter as far from the other end
-  mirror-at : (w : Word) (k : ℕ) → k < length w → getD (mirror σ w) k 0 ≡ σ (getD w (length w - suc k) 0)
+  pub mirror-at : (w : Word) (k : ℕ) → k < length w → getD (mirror σ w) k 0 ≡ σ (getD w (length w - suc k) 0)
   mirror-at [] k h = absurd (omega arith)
   mirror-at (x ∷ w) k h = go (decLt k (length w)) (mirror-at w k)
     where

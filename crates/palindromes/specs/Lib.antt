@@ -1,5 +1,6 @@
 pub mod Word
 pub mod Palindrome
+pub mod Mismatch
 pub mod Reading
 pub mod Place
 pub mod Record

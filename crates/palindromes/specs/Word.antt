@@ -1,5 +1,5 @@
--- DEFINITIONS. Letters, words and the two tests on words that every other definition is made of. Nothing here is proved.
-use Prim.Native.Nat.{ℕ}
+-- DEFINITIONS. Letters, words and the tests on words that every other definition is made of. Nothing here is proved.
+use Prim.Native.Nat.{ℕ, zero, suc}
 use mathlib.Core.Bool.{Bool, true, false, cond, _&&_, _||_, not}
 use mathlib.Core.List.{List, [], _∷_}
 use lib.Dec.{eqb}
@@ -32,6 +32,13 @@ sameWord [] [] = true
 sameWord [] (y ∷ v) = false
 sameWord (x ∷ u) [] = false
 sameWord (x ∷ u) (y ∷ v) = eqb x y && sameWord u v
+
+-- where the two words disagree first, if the place of their first letters has the number k, and 0 where they do not
+unfoldable pub mismatchFrom : ℕ → Word → Word → ℕ
+mismatchFrom k [] [] = zero
+mismatchFrom k [] (y ∷ v) = k
+mismatchFrom k (x ∷ u) [] = k
+mismatchFrom k (x ∷ u) (y ∷ v) = cond (eqb x y) (mismatchFrom (suc k) u v) k
 
 -- the word is one of the list
 unfoldable pub member : Word → List Word → Bool

@@ -3,16 +3,16 @@
 //
 // Each answers a number of 64 bits; a truth value is 1 or 0. A slice is passed as its pointer and its
 // length, and a partner rule is lent as a table of partners: specs/Rule.antt of the crate
-// reference_symmetry. Each contract is the inner function's. No function has a `requires`.
+// mismatch. Each contract is the inner function's. No function has a `requires`.
 ghost use mathlib.Core.Path.{_≡_};
 ghost use mathlib.Core.Bool.{cond};
 ghost use mathlib.Core.List.{[]};
 ghost use lib.ListN.{length, getD, drop};
-ghost use Rattle.palindromes.specs.Palindrome.{isSymmetric, isPalindrome};
+ghost use Rattle.palindromes.specs.Palindrome.{firstMismatch, isSymmetric, isPalindrome};
 ghost use Rattle.palindromes.specs.Place.{startsWith, frequency, firstPlace, stands, standsOnce};
 ghost use Rattle.palindromes.specs.Record.{palindromes, count, longestLength, longestPlace, longestSuffix, longestPrefix};
 ghost use Rattle.palindromes.specs.Node.{spelt, spellingOf, linkOf};
-ghost use Rattle.reference_symmetry.specs.Rule.{ruleOf};
+ghost use Rattle.mismatch.specs.Rule.{ruleOf};
 
 fn number(t: bool) -> u64
     ensures { λ r. ⌜ r ≡ cond t 1 0 ⌝ }
@@ -24,7 +24,14 @@ fn number(t: bool) -> u64
 pub extern "C" fn reference_partner(rule: &[u8], x: u8) -> u64
     ensures { λ r. ⌜ r ≡ ruleOf (now (rule .entry)) x ⌝ }
 {
-    reference_symmetry::partner(rule, x) as u64
+    mismatch::partner(rule, x) as u64
+}
+
+#[no_mangle]
+pub extern "C" fn reference_first_mismatch(rule: &[u8], w: &[u8]) -> u64
+    ensures { λ r. ⌜ r ≡ firstMismatch (ruleOf (now (rule .entry))) (now (w .entry)) ⌝ }
+{
+    reference_symmetry::first_mismatch(rule, w) as u64
 }
 
 #[no_mangle]

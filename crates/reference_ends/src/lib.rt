@@ -5,7 +5,7 @@ ghost use mathlib.Core.Path.{_≡_};
 ghost use lib.ListN.{length};
 ghost use Rattle.palindromes.specs.Record.{longestSuffix, longestPrefix};
 ghost use Rattle.palindromes.specs.Node.{spelt, spellingOf, linkOf};
-ghost use Rattle.reference_symmetry.specs.Rule.{ruleOf};
+ghost use Rattle.mismatch.specs.Rule.{ruleOf};
 use reference_symmetry::is_symmetric;
 
 // The length of the longest palindrome at the right end, 0 where there is none.

@@ -12,7 +12,7 @@ ghost use lib.ListN.{length, getD};
 ghost use Rattle.palindromes.specs.Place.{firstPlace};
 ghost use Rattle.palindromes.specs.Record.{palindromes};
 ghost use Rattle.palindromes.specs.Record.{count as Record·count};
-ghost use Rattle.reference_symmetry.specs.Rule.{ruleOf};
+ghost use Rattle.mismatch.specs.Rule.{ruleOf};
 ghost use Rattle.reference_listing.specs.Listed.{newAtEnd, part};
 use reference_ends::longest_suffix;
 use reference_places::first_place;

@@ -6,7 +6,7 @@ ghost use mathlib.Core.Path.{_≡_};
 ghost use mathlib.Core.Bool.{cond};
 ghost use Prim.Native.Nat.{min};
 ghost use Rattle.palindromes.specs.Record.{longestLength, longestPlace};
-ghost use Rattle.reference_symmetry.specs.Rule.{ruleOf};
+ghost use Rattle.mismatch.specs.Rule.{ruleOf};
 use reference_listing::new_at_end;
 use reference_places::first_place;
 

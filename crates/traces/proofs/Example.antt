@@ -8,8 +8,9 @@ use mathlib.Core.Bool.{true, false, _&&_}
 use mathlib.Core.List.{List, [], _∷_, cons-ne-nil}
 use lib.Dec.{ltb}
 use lib.ListN.{length, getD, replicate, length-replicate}
-use Rattle.palindromes.specs.Word.{Word, isLetter, allLetters, sameWord}
-use Rattle.palindromes.specs.Palindrome.{mirror, isSymmetric, Palindrome}
+use Rattle.palindromes.specs.Word.{Word, isLetter, allLetters, mismatchFrom}
+use Rattle.palindromes.specs.Palindrome.{mirror, firstMismatch, isSymmetric, Palindrome}
+use Rattle.palindromes.specs.Mismatch.{reportedMismatch}
 use Rattle.palindromes.specs.Reading.{Reading, asPlain, readingNumber, ruleIn}
 use Rattle.palindromes.specs.Place.{Stands, startsWith, placesFrom, places, frequency, stands, standsOnce}
 use Rattle.palindromes.specs.Record.{longestSuffix}
@@ -241,9 +242,19 @@ AA-nowhere h =
     let no : stands (65 ∷ 65 ∷ []) (lettersAfter 3 calls) ≡ false = rw letters-left refl in
     false-not-true no (stands-is (65 ∷ 65 ∷ []) (lettersAfter 3 calls) h)
 
+-- AA reads alike and is merely not there
 pub AA-absent : Replies (find (65 ∷ 65 ∷ [])) end (accepted false 0 0 0)
-unfolding allLetters isLetter
+unfolding allLetters isLetter reportedMismatch firstMismatch mismatchFrom mirror ruleIn
 AA-absent = its-table .absent (65 ∷ 65 ∷ []) (cons-ne-nil 65 (65 ∷ [])) refl (λ p h. AA-nowhere h)
+
+-- CCAC, which is longer than the record, is no repeat: its second pair disagrees
+CCAC-none : Palindrome (ruleIn 0) (67 ∷ 67 ∷ 65 ∷ 67 ∷ []) → ⊥
+unfolding mirror ruleIn
+CCAC-none p = omega (arith, ap (λ (w : Word). getD w 1 0) (p .symmetric))
+
+pub CCAC-breaks : Replies (find (67 ∷ 67 ∷ 65 ∷ 67 ∷ [])) end (accepted false 0 2 0)
+unfolding allLetters isLetter reportedMismatch firstMismatch mismatchFrom mirror ruleIn
+CCAC-breaks = its-table .absent (67 ∷ 67 ∷ 65 ∷ 67 ∷ []) (cons-ne-nil 67 (67 ∷ 65 ∷ 67 ∷ [])) refl (λ p h. CCAC-none p)
 
 -- no repeat has row 5, which is over capacity + 1
 row-five : (w : Word) → Palindrome (ruleIn 0) w → Stands w (lettersAfter 3 calls) → rowNow w ≡ 5 → ⊥
@@ -279,7 +290,7 @@ removal-accepted : unpacked (answered A-tried (remove atRight)) .number ≡ 0
 removal-accepted = of-removal .removal atRight refl .accepted-if (λ e. cons-ne-nil 67 (65 ∷ 67 ∷ []) (sym letters-full ∙ e))
 
 pub CAC-went : unpacked (answered A-tried (remove atRight)) .flag ≡ true
-unfolding standsOnce frequency places placesFrom startsWith longestAt longestSuffix isSymmetric mirror sameWord ruleIn
+unfolding standsOnce frequency places placesFrom startsWith longestAt longestSuffix isSymmetric firstMismatch mismatchFrom mirror ruleIn
 CAC-went = of-removal .removal atRight refl .goes-out removal-accepted ∙ rw letters-full refl
 
 C-stood : Stands (67 ∷ []) (lettersAfter 3 A-tried)
@@ -316,7 +327,7 @@ of-refused-opening = in-plain with-CA (opening asPlain 0) plain-CA (each-to-row 
 
 -- the addition brings in CAC, which stood nowhere before
 pub CAC-came : unpacked (answered row-asked (add atRight 67)) .flag ≡ true
-unfolding stands frequency places placesFrom startsWith longestAt longestSuffix isSymmetric mirror sameWord added isLetter ruleIn
+unfolding stands frequency places placesFrom startsWith longestAt longestSuffix isSymmetric firstMismatch mismatchFrom mirror added isLetter ruleIn
 CAC-came =
     let claim = of-addition .addition atRight 67 refl in
     claim .comes-in (claim .accepted-if (rw before-CAC refl)) ∙ rw before-CAC refl

@@ -8,8 +8,8 @@ use mathlib.Core.List.{List, [], _∷_, _++_}
 use lib.Dec.{ltb}
 use lib.ListN.{length}
 use borrow.Author.Tests.{eq-eqb, ne-eqb}
-use Rattle.palindromes.specs.Word.{Word, isLetter, isEmpty, sameWord, member, keep}
-use Rattle.palindromes.specs.Palindrome.{plain, mirror, isSymmetric, isPalindrome}
+use Rattle.palindromes.specs.Word.{Word, isLetter, isEmpty, sameWord, mismatchFrom, member, keep}
+use Rattle.palindromes.specs.Palindrome.{plain, mirror, firstMismatch, isSymmetric, isPalindrome}
 use Rattle.palindromes.specs.Reading.{asPlain, readingNumber}
 use Rattle.palindromes.specs.Record.{suffixes}
 use Rattle.palindromes.specs.End.{End, atLeft, atRight, added, removed, withoutLast}
@@ -137,11 +137,11 @@ pub AC : List Step
 AC = more length-asked (add atRight 67)
 
 A-counted : Counted one-A (65 ∷ []) 1 1
-unfolding isLetter searchSteps candidates serves passedBefore suffixes keep member sameWord isPalindrome isSymmetric isEmpty mirror
+unfolding isLetter searchSteps candidates serves passedBefore suffixes keep member sameWord isPalindrome isSymmetric firstMismatch mismatchFrom isEmpty mirror
 A-counted = counted-right no-calls 65 refl
 
 AC-counted : Counted AC (65 ∷ 67 ∷ []) 2 3
-unfolding AC isLetter searchSteps candidates serves passedBefore suffixes keep member sameWord isPalindrome isSymmetric isEmpty mirror
+unfolding AC isLetter searchSteps candidates serves passedBefore suffixes keep member sameWord isPalindrome isSymmetric firstMismatch mismatchFrom isEmpty mirror
 AC-counted = counted-right (counted-question (counted-refused A-counted 78 refl) theLength) 67 refl
 
 -- the theorem speaks of this list, and its bound is reached
@@ -162,7 +162,7 @@ pub with-removal : List Step
 with-removal = more (more (more (more one-A (add atRight 65)) (add atRight 67)) (remove atRight)) (add atRight 67)
 
 removal-counted : Counted with-removal (65 ∷ 65 ∷ 67 ∷ []) 4 8
-unfolding with-removal isLetter removed withoutLast searchSteps candidates serves passedBefore suffixes keep member sameWord isPalindrome isSymmetric isEmpty mirror
+unfolding with-removal isLetter removed withoutLast searchSteps candidates serves passedBefore suffixes keep member sameWord isPalindrome isSymmetric firstMismatch mismatchFrom isEmpty mirror
 removal-counted = counted-right (counted-removal (counted-right (counted-right A-counted 65 refl) 67 refl) atRight) 67 refl
 
 pub removal-exceeds : 2 * takenRight with-removal - 1 < reportedSum with-removal
@@ -174,7 +174,7 @@ pub with-left : List Step
 with-left = more (more one-A (add atLeft 65)) (add atRight 67)
 
 left-counted : Counted with-left (65 ∷ 65 ∷ 67 ∷ []) 2 4
-unfolding with-left isLetter searchSteps candidates serves passedBefore suffixes keep member sameWord isPalindrome isSymmetric isEmpty mirror
+unfolding with-left isLetter searchSteps candidates serves passedBefore suffixes keep member sameWord isPalindrome isSymmetric firstMismatch mismatchFrom isEmpty mirror
 left-counted = counted-right (counted-left A-counted 65 refl) 67 refl
 
 pub left-exceeds : 2 * takenRight with-left - 1 < reportedSum with-left

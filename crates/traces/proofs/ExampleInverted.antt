@@ -6,8 +6,9 @@ use mathlib.Core.Path.{_≡_, refl, sym, ap, _∙_, subst}
 use mathlib.Core.Bool.{true, false}
 use mathlib.Core.List.{List, [], _∷_, cons-ne-nil}
 use lib.ListN.{getD}
-use Rattle.palindromes.specs.Word.{Word, isLetter, allLetters, sameWord}
-use Rattle.palindromes.specs.Palindrome.{mirror, isSymmetric, Palindrome}
+use Rattle.palindromes.specs.Word.{Word, isLetter, allLetters, mismatchFrom}
+use Rattle.palindromes.specs.Palindrome.{mirror, firstMismatch, isSymmetric, Palindrome}
+use Rattle.palindromes.specs.Mismatch.{reportedMismatch}
 use Rattle.palindromes.specs.Reading.{asInverted, complement, readingNumber, ruleIn}
 use Rattle.palindromes.specs.Place.{Stands, startsWith, placesFrom, places, frequency, stands}
 use Rattle.palindromes.specs.Record.{longestSuffix}
@@ -76,21 +77,21 @@ pub AT-found : Replies (find (65 ∷ 84 ∷ [])) end (accepted true (rowNow (65 
 AT-found = its-table .found (65 ∷ 84 ∷ []) AT-repeat AT-stands
 
 pub AT-fields : Replies (theRow (rowNow (65 ∷ 84 ∷ []))) end (accepted false 1 2 1)
-unfolding numberOf linkOf innerOf withoutLast longestSuffix isSymmetric mirror sameWord ruleIn complement
+unfolding numberOf linkOf innerOf withoutLast longestSuffix isSymmetric firstMismatch mismatchFrom mirror ruleIn complement
 AT-fields = its-table .fields (65 ∷ 84 ∷ []) AT-repeat AT-stands
 
--- A is absent, though it stands
+-- A is absent, though it stands: it faces itself, and its partner is T
 A-none : Palindrome (ruleIn 1) (65 ∷ []) → ⊥
 unfolding mirror ruleIn complement
 A-none p = omega (arith, ap (λ (w : Word). getD w 0 0) (p .symmetric))
 
-pub A-absent : Replies (find (65 ∷ [])) end (accepted false 0 0 0)
-unfolding allLetters isLetter
+pub A-absent : Replies (find (65 ∷ [])) end (accepted false 0 1 0)
+unfolding allLetters isLetter reportedMismatch firstMismatch mismatchFrom mirror ruleIn complement
 A-absent = its-table .absent (65 ∷ []) (cons-ne-nil 65 []) refl (λ p h. A-none p)
 
 -- T brings in AT
 pub AT-came : unpacked (stepOf (add atRight 84) (storeAfter start with-A) nothing .answer) .flag ≡ true
-unfolding EachCall with-AT stands frequency places placesFrom startsWith longestAt longestSuffix isSymmetric mirror sameWord added isLetter ruleIn complement
+unfolding EachCall with-AT stands frequency places placesFrom startsWith longestAt longestSuffix isSymmetric firstMismatch mismatchFrom mirror added isLetter ruleIn complement
 AT-came =
     let claim = inverted-claims .each .0 .addition atRight 84 refl in
     claim .comes-in (claim .accepted-if (rw letters-A refl)) ∙ rw (inverted-A, letters-A) refl

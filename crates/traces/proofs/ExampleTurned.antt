@@ -6,8 +6,10 @@ use native.Mathlib.Omega.{arith}
 use mathlib.Core.Path.{_≡_, refl, sym, subst}
 use mathlib.Core.Bool.{true, false}
 use mathlib.Core.List.{List, [], _∷_}
-use Rattle.palindromes.specs.Word.{Word, isLetter}
-use Rattle.palindromes.specs.Reading.{asPlain, asInverted, readingNumber, ruleIn}
+use Rattle.palindromes.specs.Word.{Word, isLetter, mismatchFrom}
+use Rattle.palindromes.specs.Palindrome.{mirror, firstMismatch}
+use Rattle.palindromes.specs.Mismatch.{reportedMismatch}
+use Rattle.palindromes.specs.Reading.{asPlain, asInverted, complement, readingNumber, ruleIn}
 use Rattle.palindromes.specs.Place.{Stands}
 use Rattle.palindromes.specs.Record.{palindromes}
 use Rattle.palindromes.specs.End.{atRight, added, notAmong}
@@ -126,11 +128,12 @@ AT-came = of-turned .comes-in differ
 pub A-and-T-went : notAmong (palindromes (ruleIn 1) (lettersAfter 3 with-AT)) (palindromes (ruleIn 0) (lettersAfter 3 with-AT)) ≡ palindromes (ruleIn 0) (lettersAfter 3 with-AT)
 A-and-T-went = of-turned .goes-out differ
 
--- find answers A absent right after it, though A stands and was a repeat until then
+-- find answers A absent right after it, though A stands and was a repeat until then: its one pair, A with itself, disagrees from now on
 A-stood : Stands (65 ∷ []) (lettersAfter 3 with-AT)
 A-stood = record { before = []; after = 84 ∷ []; whole = sym letters-AT }
 
-pub A-absent : Replies (find (65 ∷ [])) (turn-step .store) (accepted false 0 0 0)
+pub A-absent : Replies (find (65 ∷ [])) (turn-step .store) (accepted false 0 1 0)
+unfolding reportedMismatch firstMismatch mismatchFrom mirror ruleIn complement
 A-absent = of-turned .old-absent differ (65 ∷ []) (letter 65) A-stood
 
 -- and AT found, with the row that the ledger has from then on

@@ -7,12 +7,14 @@ use native.Mathlib.Omega.{arith}
 use lib.ListN.{length}
 use Rattle.palindromes.specs.Word.{Word, allLetters, member}
 use Rattle.palindromes.specs.Palindrome.{Palindrome}
+use Rattle.palindromes.specs.Mismatch.{reportedMismatch}
 use Rattle.palindromes.specs.Reading.{ruleIn}
 use Rattle.palindromes.specs.Place.{Stands}
 use Rattle.palindromes.specs.Record.{palindromes}
 use Rattle.palindromes.specs.Node.{Node, imaginary, spelt, lengthOf, linkOf, innerOf, spellingOf}
 use Rattle.palindromes.specs.Refusal.{Question, ask, theRow, spell, find}
 use Rattle.palindromes.proofs.Tests.{not-true-false}
+use Rattle.palindromes.proofs.Mismatch.{mismatch-unreported}
 use Rattle.palindromes.proofs.Palindromes.{palindromes-true, palindromes-is}
 use Rattle.palindromes.proofs.Growth.{link-stands, inner-of}
 use Rattle.palindromes.proofs.Longest.{longest-suffix}
@@ -96,18 +98,23 @@ module _ (m k : ℕ) (s : Word) (row : Word → ℕ) (b : Word) (st : State m k 
   unfolding acceptedOutcome answerTo lentAfter
   find-outcome w p h l =
       let there : member w (palindromes (ruleOf b) (lettersIn b)) ≡ true = rw (rule-is st) (palindromes-is (ruleIn m) w (lettersIn b) p (in-store h)) in
+      let none : reportedMismatch (ruleOf b) w ≡ 0 = mismatch-unreported (ruleOf b) w (rw (rule-is st) (p .symmetric)) in
       carried-out (ask (find w)) b l (find-accepted b l w (p .non-empty) (letters-piece (in-store h) (good .letters)))
       ∙ ap (λ (r : Reply). Unchanged r l)
-      (reply-of-found (member w (palindromes (ruleOf b) (lettersIn b))) (rowOf b (spelt w)) ∙ ap₂ (λ (t : Bool) (r : ℕ). accepted t (cond t r 0) 0 0) there (sym (st .rows w p h)))
+      (reply-of-found (member w (palindromes (ruleOf b) (lettersIn b))) (rowOf b (spelt w)) (reportedMismatch (ruleOf b) w)
+      ∙ ap₂ (λ (t : Bool) (r : ℕ). accepted t (cond t r 0) (reportedMismatch (ruleOf b) w) 0) there (sym (st .rows w p h))
+      ∙ ap (λ (n : ℕ). accepted true (row w) n 0) none)
 
-  absent-outcome : (w : Word) → (w ≡ [] → ⊥) → allLetters w ≡ true → (Palindrome (ruleIn m) w → Stands w s → ⊥) → (l : Lent) → outcome (ask (find w)) b l ≡ Unchanged (accepted false 0 0 0) l
+  absent-outcome : (w : Word) → (w ≡ [] → ⊥) → allLetters w ≡ true → (Palindrome (ruleIn m) w → Stands w s → ⊥) → (l : Lent)
+      → outcome (ask (find w)) b l ≡ Unchanged (accepted false 0 (reportedMismatch (ruleIn m) w) 0) l
   unfolding acceptedOutcome answerTo lentAfter
   absent-outcome w f g n l =
       let missing : member w (palindromes (ruleOf b) (lettersIn b)) ≡ false =
       not-true-false (member w (palindromes (ruleOf b) (lettersIn b))) (λ e. let h = palindromes-true (ruleOf b) w (lettersIn b) e in n (rw (rule-is st) at (h .0)) (out-store (h .1))) in
       carried-out (ask (find w)) b l (find-accepted b l w f g)
       ∙ ap (λ (r : Reply). Unchanged r l)
-      (reply-of-found (member w (palindromes (ruleOf b) (lettersIn b))) (rowOf b (spelt w)) ∙ ap (λ (t : Bool). accepted t (cond t (rowOf b (spelt w)) 0) 0 0) missing)
+      (reply-of-found (member w (palindromes (ruleOf b) (lettersIn b))) (rowOf b (spelt w)) (reportedMismatch (ruleOf b) w)
+      ∙ ap₂ (λ (t : Bool) (σ : ℕ → ℕ). accepted t (cond t (rowOf b (spelt w)) 0) (reportedMismatch σ w) 0) missing (rule-is st))
 
   pub row-outcome : (w : Word) → Palindrome (ruleIn m) w → Stands w s → (l : Lent)
       → outcome (ask (theRow (row w))) b l ≡ Unchanged (accepted false (numberOf row (linkOf (ruleIn m) (spelt w))) (length w) (numberOf row (innerOf (spelt w)))) l

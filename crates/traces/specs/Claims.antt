@@ -9,6 +9,7 @@ use lib.Dec.{ltb}
 use lib.ListN.{length}
 use Rattle.palindromes.specs.Word.{Word, isLetter, allLetters}
 use Rattle.palindromes.specs.Palindrome.{Palindrome}
+use Rattle.palindromes.specs.Mismatch.{reportedMismatch}
 use Rattle.palindromes.specs.Reading.{Reading, readingNumber, ruleIn}
 use Rattle.palindromes.specs.Place.{Stands, stands, standsOnce}
 use Rattle.palindromes.specs.Record.{palindromes}
@@ -52,14 +53,14 @@ numberOf row imaginary = 0
 numberOf row (spelt []) = 1
 numberOf row (spelt (x ∷ w)) = row (x ∷ w)
 
--- the second point: what find, the row question and spell answer after the list
+-- the second point: what find, the row question and spell answer after the list. 02 (x): beside its row or absence find answers the first pair of the piece that disagrees, none for a repeat
 pub record Table (m k : ℕ) (s : Word) (row : Word → ℕ) (b : Word) : Type 0 where
   pub found : (w : Word) → Palindrome (ruleIn m) w → Stands w s → Replies (find w) b (accepted true (row w) 0 0)
   pub in-range : (w : Word) → Palindrome (ruleIn m) w → Stands w s → (2 ≤ row w) × (row w ≤ k + 1)
   pub alone : (v w : Word) → Palindrome (ruleIn m) v → Stands v s → Palindrome (ruleIn m) w → Stands w s → row v ≡ row w → v ≡ w
   pub fields : (w : Word) → Palindrome (ruleIn m) w → Stands w s
       → Replies (theRow (row w)) b (accepted false (numberOf row (linkOf (ruleIn m) (spelt w))) (length w) (numberOf row (innerOf (spelt w))))
-  pub absent : (w : Word) → (w ≡ [] → ⊥) → allLetters w ≡ true → (Palindrome (ruleIn m) w → Stands w s → ⊥) → Replies (find w) b (accepted false 0 0 0)
+  pub absent : (w : Word) → (w ≡ [] → ⊥) → allLetters w ≡ true → (Palindrome (ruleIn m) w → Stands w s → ⊥) → Replies (find w) b (accepted false 0 (reportedMismatch (ruleIn m) w) 0)
   pub no-row : (r : ℕ) → 2 ≤ r → ((w : Word) → Palindrome (ruleIn m) w → Stands w s → row w ≡ r → ⊥) → Replies (theRow r) b (refusedWith 7)
   pub no-spelling : (r : ℕ) → 2 ≤ r → ((w : Word) → Palindrome (ruleIn m) w → Stands w s → row w ≡ r → ⊥) → Replies (spell r) b (refusedWith 7)
 
@@ -105,7 +106,7 @@ pub record Turned (m n k : ℕ) (s : Word) (row row′ : Word → ℕ) (b b′ :
   pub goes-out : (m ≡ n → ⊥) → notAmong (palindromes (ruleIn n) s) (palindromes (ruleIn m) s) ≡ palindromes (ruleIn m) s
   pub new-rows : Table n k s row′ b′
   pub none-kept : (m ≡ n → ⊥) → (w : Word) → Palindrome (ruleIn m) w → Stands w s → Palindrome (ruleIn n) w → ⊥
-  pub old-absent : (m ≡ n → ⊥) → (w : Word) → Palindrome (ruleIn m) w → Stands w s → Replies (find w) b′ (accepted false 0 0 0)
+  pub old-absent : (m ≡ n → ⊥) → (w : Word) → Palindrome (ruleIn m) w → Stands w s → Replies (find w) b′ (accepted false 0 (reportedMismatch (ruleIn n) w) 0)
 
 -- a repeat that stands before and after a call, each time as one of the reading then in force, keeps its row, and the row's length, link and inner row: find
 -- answers the same number on both stores, and so does the row question for that row, whose answer holds the three

@@ -7,7 +7,7 @@ use lib.ListN.{length, take}
 use lib.Seq.{length-take-le}
 use borrow.Author.Needs.{needs}
 use Rattle.palindromes.specs.Record.{longestPrefix}
-use Rattle.reference_symmetry.specs.Rule.{ruleOf}
+use Rattle.mismatch.specs.Rule.{ruleOf}
 use Rattle.reference_ends.proofs.AtEnds.{prefix-all, prefix-here, prefix-shorter, prefix-none}
 use Rattle.reference_ends.proofs.longest_prefix.Statement.{statement}
 use Rattle.reference_ends.proofs.longest_prefix.Tie as tie

@@ -6,7 +6,7 @@ use mathlib.Core.Path.{_≡_, refl, sym, ap, _∙_}
 use lib.ListN.{length, drop}
 use borrow.Author.Needs.{needs}
 use Rattle.palindromes.specs.Record.{longestSuffix}
-use Rattle.reference_symmetry.specs.Rule.{ruleOf}
+use Rattle.mismatch.specs.Rule.{ruleOf}
 use Rattle.reference_ends.proofs.AtEnds.{suffix-here, suffix-shorter, suffix-none}
 use Rattle.reference_ends.proofs.longest_suffix.Statement.{statement}
 use Rattle.reference_ends.proofs.longest_suffix.Tie as tie

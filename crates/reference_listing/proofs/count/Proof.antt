@@ -8,7 +8,7 @@ use lib.ListN.{length}
 use lib.Seq.{length-take-le}
 use borrow.Author.Needs.{needs}
 use Rattle.palindromes.specs.Record.{count}
-use Rattle.reference_symmetry.specs.Rule.{ruleOf}
+use Rattle.mismatch.specs.Rule.{ruleOf}
 use Rattle.reference_places.proofs.Numbers.{byte-le}
 use Rattle.reference_listing.proofs.Listing.{listLeft, left-all, left-none, length-left}
 use Rattle.reference_listing.proofs.count.Statement.{statement}

@@ -9,7 +9,7 @@ use lib.Seq.{length-take-le}
 use borrow.Author.Needs.{needs}
 use Rattle.palindromes.specs.Word.{Word}
 use Rattle.palindromes.specs.Record.{palindromes}
-use Rattle.reference_symmetry.specs.Rule.{ruleOf}
+use Rattle.mismatch.specs.Rule.{ruleOf}
 use Rattle.reference_listing.proofs.Listing.{listLeft, left-all, left-none, left-old, new-within, nth-here, nth-later}
 use Rattle.reference_listing.proofs.nth.Statement.{statement}
 use Rattle.reference_listing.proofs.nth.Tie as tie

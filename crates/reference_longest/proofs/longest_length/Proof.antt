@@ -7,7 +7,7 @@ use lib.ListN.{length}
 use lib.Seq.{length-take-le}
 use borrow.Author.Needs.{needs}
 use Rattle.palindromes.specs.Record.{longestLength}
-use Rattle.reference_symmetry.specs.Rule.{ruleOf}
+use Rattle.mismatch.specs.Rule.{ruleOf}
 use Rattle.reference_longest.proofs.Extremes.{greatestLeft, greatest-all, greatest-none, greatest-next}
 use Rattle.reference_longest.proofs.longest_length.Statement.{statement}
 use Rattle.reference_longest.proofs.longest_length.Tie as tie

@@ -7,7 +7,7 @@ use lib.ListN.{length}
 use lib.Seq.{length-take-le}
 use borrow.Author.Needs.{needs}
 use Rattle.palindromes.specs.Record.{longestPlace}
-use Rattle.reference_symmetry.specs.Rule.{ruleOf}
+use Rattle.mismatch.specs.Rule.{ruleOf}
 use Rattle.reference_listing.proofs.Listing.{new-within}
 use Rattle.reference_longest.proofs.Extremes.{leastWith, placesOf, place-all, place-none, place-here, places-old, places-other}
 use Rattle.reference_longest.proofs.longest_place.Statement.{statement}

@@ -1,7 +1,7 @@
 -- `reference_symmetry::is_palindrome` meets its contract: the empty word is none, and any other is one exactly if it is symmetric. Assumes nothing.
 use mathlib.Core.Path.{sym, _∙_}
 use borrow.Author.Needs.{needs}
-use Rattle.reference_symmetry.proofs.Mirrors.{palindrome-empty, palindrome-other}
+use Rattle.reference_symmetry.proofs.Palindromes.{palindrome-empty, palindrome-other}
 use Rattle.reference_symmetry.proofs.is_palindrome.Statement.{statement}
 use Rattle.reference_symmetry.proofs.is_palindrome.Tie as tie
 

@@ -1,107 +1,79 @@
--- `search::find` searches from the centre outwards. The loop's invariant: the row is that of the node reached so far, and the letters read face their partners. The measure is
--- what is left of the piece. Assumes nothing.
-use Prim.Native.Nat.{ℕ, _-_, _<_}
+-- `search::find` compares the piece with its reversal, and looks for it if the two agree. Assumes nothing.
+use Prim.Native.Nat.{ℕ}
 use native.Mathlib.Omega.{arith}
-use mathlib.Core.Path.{_≡_, sym, ap, _∙_}
-use lib.ListN.{length, getD}
+use mathlib.Core.Path.{_≡_, refl, sym, ap, _∙_}
+use borrow.Author.Needs.{needs}
+use Rattle.palindromes.specs.Palindrome.{firstMismatch}
 use Rattle.palindromes.specs.Reading.{ruleIn}
-use Rattle.palindromes.proofs.Letters.{letter-of, letter-byte}
+use Rattle.palindromes.proofs.Tests.{mismatch-zero}
 use Rattle.store.specs.Good.{ruleOf}
-use Rattle.transitions.proofs.Rows.{used-fits}
 use Rattle.walk.proofs.Stores.{header-fits}
-use Rattle.search.proofs.Finding.{Reached, too-long, reached-first, reached-next, reached-last, not-facing, no-edge}
+use Rattle.search.specs.Search.{foundIn}
+use Rattle.search.proofs.Finding.{answered, by-partners, by-mismatch, too-long, by-edges}
 use Rattle.search.proofs.find.Statement.{statement}
 use Rattle.search.proofs.find.Tie as tie
 
-abbrev Inv-loop : tie.InvT-loop
-Inv-loop b piece partners row₀ k₀ row k = Reached b piece k row
+-- the entry, from behind the comparison
+abbrev entered : tie.After-first-mismatch → tie.Start
+entered c = c .before .before .before .before .before .before
 
-abbrev μ-loop : tie.MeasureT-loop
-μ-loop b piece partners row₀ k₀ row k = length piece - k
+-- what the comparison came to
+compared : (c : tie.After-first-mismatch) → firstMismatch (ruleOf (entered c .args .b .now)) (entered c .args .piece .now) ≡ c .first-mismatch .result
+compared c =
+    let s = entered c in
+    let made = c .before .before in
+    by-partners (s .args .b .now) (s .args .piece .now) (made .table .result)
+    (λ x l. made .table .ensures x l ∙ ap (λ (m : ℕ). ruleIn m x) (made .before .reading .ensures .0)) (s .pre .1 .1) _ (c .first-mismatch .result) refl (c .first-mismatch .ensures)
 
--- the entry, from the loop, and the loop, from behind the partner of the next letter
-abbrev from-loop : tie.At-loop Inv-loop μ-loop → tie.Start Inv-loop μ-loop
-from-loop c = c .before .before .before .before .before .before .before .before
-
-abbrev from-partner : tie.After-partner-in Inv-loop μ-loop → tie.At-loop Inv-loop μ-loop
-from-partner c = c .before .before .before .before .before
-
-returns : tie.Need-returns Inv-loop μ-loop
+returns : tie.Need-returns
 returns c =
-    let s = c .before .before .before .before in
-    rw (too-long (s .pre .0) (s .args .piece .now) (omega (arith, c .if1 .taken, c .before .size .ensures .0)))
+    let done = c .before .before in
+    let s = entered done in
+    by-mismatch (s .pre .0) (s .args .piece .now) (compared done) (c .before .if1 .taken) (c .reported .ensures)
 
-loop-holds : tie.Need-loop-holds Inv-loop μ-loop
-loop-holds c = let s = c .before .before .before .before .before .before .before in reached-first (s .pre .0) (s .args .piece .now) (c .centre .result) (c .centre .ensures)
+size-requires : tie.Need-size-requires
+size-requires c κs = header-fits (entered (c .before) .pre .0 .sized)
 
--- what the letter that faces the next one must be
-wanted : (c : tie.After-partner-in Inv-loop μ-loop)
-    → c .partner-in .result ≡ ruleOf (from-loop (from-partner c) .args .b .now) (getD (from-loop (from-partner c) .args .piece .now) (from-partner c .loop .k) 0)
-wanted c =
-    let t = from-partner c in
-    let taken = t .before .before in
-    let s = from-loop t in
-    let letter = getD (s .args .piece .now) (t .loop .k) 0 in
-    let small : letter < 256 = letter-byte letter (letter-of (s .args .piece .now) (t .loop .k) (c .before .before .before .before .loop-test .taken) (s .pre .1 .1)) in
-    c .partner-in .ensures ∙ taken .table .ensures letter small ∙ ap (λ (m : ℕ). ruleIn m letter) (taken .before .reading .ensures .0)
-
-returns-2 : tie.Need-returns-2 Inv-loop μ-loop
+returns-2 : tie.Need-returns-2
 returns-2 c =
-    let p = c .before in
-    let i = from-partner p .loop in
-    let s = from-loop (from-partner p) in
-    rw (not-facing (s .pre .0) (s .args .piece .now) (i .k) (i .row) (i .inv) (p .before .before .before .before .loop-test .taken) λ f. c .if2 .taken (f ∙ sym (wanted p)))
+    let alike = c .before .before in
+    let s = entered (alike .before) in
+    too-long (s .pre .0) (s .args .piece .now) (compared (alike .before) ∙ alike .if1 .left) (omega (arith, c .if2 .taken, c .before .size .ensures .0))
 
-edge-of-requires : tie.Need-edge-of-requires Inv-loop μ-loop
-edge-of-requires c κs =
-    let t = from-partner (c .before) in
-    used-fits (from-loop t .pre .0) (t .loop .row) (t .loop .inv .used)
+outwards-requires : tie.Need-outwards-requires
+outwards-requires c κs =
+    let alike = c .before .before in
+    let s = entered (alike .before) in
+    (s .pre .0, (s .pre .1 .0, s .pre .1 .1, mismatch-zero _ _ (compared (alike .before) ∙ alike .if1 .left)))
 
-returns-3 : tie.Need-returns-3 Inv-loop μ-loop
-returns-3 c =
-    let edge = c .before .edge-of in
-    let p = c .before .before .before in
-    let i = from-partner p .loop in
-    let s = from-loop (from-partner p) in
-    rw (no-edge (s .pre .0) (s .args .piece .now) (i .k) (i .row) (i .inv) (p .before .before .before .before .loop-test .taken) (s .pre .1 .1) (edge .result) (edge .ensures .0) (c .if3 .taken))
+-- where the edges led, of a piece that reads alike
+led : (c : tie.After-outwards) → let s = entered (c .before .before .before .before) in answered (c .outwards .result) ≡ foundIn (s .args .b .now) (s .args .piece .now)
+led c =
+    let alike = c .before .before .before in
+    let s = entered (alike .before) in
+    by-edges (s .pre .0) (s .args .piece .now) (compared (alike .before) ∙ alike .if1 .left) (c .outwards .result) (c .outwards .ensures)
 
-loop-again : tie.Need-loop-again Inv-loop μ-loop
-loop-again c =
-    let edge = c .before .edge-of in
-    let p = c .before .before .before in
-    let i = from-partner p .loop in
-    let s = from-loop (from-partner p) in
-    reached-next (s .pre .0) (s .args .piece .now) (i .k) (i .row) (i .inv) (p .before .before .before .before .loop-test .taken) (s .pre .1 .1) (edge .result) (edge .ensures .0)
-    (c .before .before .if2 .left ∙ wanted p) (c .if3 .left)
+returns-3 : tie.Need-returns-3
+returns-3 c = ap answered (sym (c .enum-told .given .1)) ∙ led (c .before .before)
 
-returns-4 : tie.Need-returns-4 Inv-loop μ-loop
-returns-4 c =
-    let i = c .before .loop in
-    let s = from-loop (c .before) in
-    let h = reached-last (s .pre .0) (s .args .piece .now) (i .k) (i .row) (i .inv) (λ n. omega (arith, ap length n, s .pre .1 .0)) (omega (arith, i .inv .high, c .loop-test .left)) in
-    rw (h .0, h .1)
+returns-4 : tie.Need-returns-4
+returns-4 c = ap answered (sym (c .before .row .given .1)) ∙ led (c .before .before .before)
 
 pub find-spec : {M : Type 1} → statement M
 find-spec =
     tie.close
     (tie.spec
-    Inv-loop
-    μ-loop
     (λ c κs. header-fits (c .before .before .pre .0 .sized))
+    (λ c κs. search needs)
+    (λ c. search needs)
+    (λ c. search needs)
+    (λ c κs. search needs)
+    (λ c κs. search needs)
     returns
-    (λ c κs. header-fits (c .before .before .before .before .pre .0 .sized))
-    (λ c κs. tt)
-    (λ c κs. tt)
-    loop-holds
-    (λ c. omega arith)
-    (λ c. omega arith)
-    (λ c. omega arith)
-    (λ c. omega arith)
-    (λ c κs. tt)
+    size-requires
     returns-2
-    edge-of-requires
+    outwards-requires
+    (λ c. search needs)
+    (λ c. search needs)
     returns-3
-    (λ c. omega arith)
-    (λ c. omega arith)
-    loop-again
     returns-4)

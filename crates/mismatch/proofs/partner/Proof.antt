@@ -1,8 +1,8 @@
--- `reference_symmetry::partner` meets its contract, by whether the byte lies in the table. Assumes nothing.
+-- `mismatch::partner` meets its contract, by whether the byte lies in the table. Assumes nothing.
 use borrow.Author.Needs.{needs}
-use Rattle.reference_symmetry.proofs.Mirrors.{partner-within, partner-past}
-use Rattle.reference_symmetry.proofs.partner.Statement.{statement}
-use Rattle.reference_symmetry.proofs.partner.Tie as tie
+use Rattle.mismatch.proofs.Rules.{partner-within, partner-past}
+use Rattle.mismatch.proofs.partner.Statement.{statement}
+use Rattle.mismatch.proofs.partner.Tie as tie
 
 returns : tie.Need-returns
 returns c =

@@ -1,0 +1,2 @@
+-- laws of a rule that is lent as a table
+pub mod Rules
