@@ -1,11 +1,12 @@
 /* The benchmark: the library beside its C twin, in one run, on five words and four sizes in either reading, inverted
- * records beside plain ones, turns and the longest length beside length, and removals and the longest at an end beside
- * additions.
+ * records beside plain ones, turns and the longest length beside length, removals and the longest at an end beside
+ * additions, and finding a piece of a million letters beside testing them.
  *
  * Prints ratios, library over twin, since times of one machine say little; a ratio above the limit is marked with !.
  * The argument names the file that gets the drawing of growth. Ends with 1 if a tested call at 1,000 letters, a fill or
  * reading FASTA is above its limit, or if at 1,000 letters an inverted record beside a plain one, a turn or the longest
- * length beside length, or a removal or the longest at an end beside an addition, takes longer than it may. */
+ * length beside length, or a removal or the longest at an end beside an addition, takes longer than it may, or a piece of a
+ * million letters that breaks at its first pair longer than the test of its letters. */
 #include <math.h>
 
 #include "calls.h"
@@ -294,6 +295,37 @@ static int without_a_test(void)
     return above + untested("fasta, mixed case", FASTA_LIMIT, time_masked_fasta);
 }
 
+/* One line for a piece of a million letters in either reading; how many figures of the library are above the limit. */
+static int long_line(const char *name, double limit, const struct pair figures[2])
+{
+    int above = 0;
+    printf("  %-36s", name);
+    for (int reading = PLAIN; reading <= INVERTED; reading++) {
+        above += figures[reading].library > limit;
+        printf("%10.3f%s%6.3f ", figures[reading].library, mark(figures[reading].library, limit), figures[reading].twin);
+    }
+    puts("");
+    return above;
+}
+
+/* Finding a piece of a million letters; how many ratios are above the limit. */
+static int long_pieces(void)
+{
+    struct pair ratio[2], letters[2], alike[2];
+    for (int reading = PLAIN; reading <= INVERTED; reading++) {
+        ratio[reading] = time_first_pair(reading);
+        letters[reading] = time_long(reading, false);
+        alike[reading] = time_long(reading, true);
+    }
+    printf("\nFinding a piece of a million letters that breaks at its first pair, over the test of its letters, and nanoseconds for "
+           "each letter, in the library and in the twin; ! where above %.2f\n", FIRST_PAIR_LIMIT);
+    printf("\n%-38s%16s%18s\n", "", "all-A, plain", "(AT)*, inverted");
+    int above = long_line("breaks at 1, over the letters' test", FIRST_PAIR_LIMIT, ratio);
+    long_line("the letters' test, nanoseconds", INFINITY, letters);
+    long_line("reads alike, nanoseconds", INFINITY, alike);
+    return above;
+}
+
 /* Measures a call on a word at every size of the drawing, in rounds, so that no size has the machine's bad moment. */
 static void measure_growth(int call, int word, double *us)
 {
@@ -347,6 +379,7 @@ int main(int count, char **arguments)
     against_floor(test);
     against_surfaces();
     above += without_a_test();
+    above += long_pieces();
     growth(out);
     fclose(out);
     printf("\n%d ratios above their limit at 1,000 letters\n", above);

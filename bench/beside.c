@@ -8,7 +8,8 @@
  *
  *     beside FOLDER [LIMIT [FILL]]     FOLDER/today-1.so, FOLDER/other-1.so, today-2.so and so on, COPIES of each, and the
  *                                      same of the crate bench_fill, today-fill-1.so and so on; ends with 1 if that figure
- *                                      is above the limit, or the fill's above FILL, or if a call was refused */
+ *                                      is above the limit, or the fill's above FILL, or if a call was refused or a
+ *                                      piece wrongly found or not found */
 #include <dlfcn.h>
 #include <float.h>
 #include <math.h>
@@ -33,7 +34,7 @@ static uint8_t fasta_texts[2][2 * LETTERS + 6], fasta_text[2 * LETTERS + 6];
 static size_t fasta_length;
 static uint8_t fill_letters[LETTERS];
 static int64_t least[ALL][BOTH_WORDS][2];
-static bool refused[ALL];
+static bool astray[ALL]; /* refused, or a piece found that is absent, or the other way round */
 static volatile uint64_t sink;
 
 /* A record of the word made by a library's own calls, with arguments that make each call work hard: the row and the piece
@@ -52,9 +53,11 @@ static void make_record(struct sitting *to, const library *by, int word)
     for (size_t i = 0; i < LETTERS; i++)
         by->add_right(to->store, to->length, letters[i]);
     uint64_t longest = by->longest(to->store, to->length);
-    to->piece_length = mirror_first(longest);
-    memcpy(to->piece, letters + mirror_second(longest), to->piece_length);
-    to->row = mirror_row_of(by->find(to->store, to->length, to->piece, to->piece_length));
+    struct piece *piece = &to->pieces[0];
+    piece->length = mirror_first(longest);
+    memcpy(piece->letters, letters + mirror_second(longest), piece->length);
+    to->row = mirror_row_of(by->find(to->store, to->length, piece->letters, piece->length));
+    make_pieces(to, word_reading(word), LETTERS);
 }
 
 static bool reads_fasta(int call) { return call == FASTA || call == MASKED; }
@@ -70,7 +73,8 @@ static uint64_t run(int call, int side)
     return reads_fasta(call) ? measured->fasta(fasta_text, fasta_length, s.out, s.out_length) : calls[call].library(&s);
 }
 
-/* One call of one library. Both work in the same bytes, which hold that library's record or text before each sample. */
+/* One call of one library. Both work in the same bytes, which hold that library's record or text before each sample. Of what
+ * find answers, whether the piece is there is looked at alone: an earlier library does not say where it breaks. */
 static int64_t sample(int call, int word, int side)
 {
     measured = &sides[side];
@@ -82,7 +86,7 @@ static int64_t sample(int call, int word, int side)
     for (int i = times_of(call); i > 0; i--)
         sink = run(call, side);
     int64_t took = now_ns() - from;
-    refused[call] |= (sink & 0xff) != 0;
+    astray[call] |= mirror_refusal(sink) != 0 || (is_find(call) && mirror_flag(sink) != (call == CALL_FIND));
     return took;
 }
 
@@ -122,11 +126,19 @@ static const char *name_of(int call)
     return call < CALLS ? calls[call].name : others[call - CALLS];
 }
 
+/* The library's call that is timed: its name stands before the comma, if there is one. */
+static unsigned call_behind(const char *name)
+{
+    char before[32];
+    snprintf(before, sizeof before, "%.*s", (int)strcspn(name, ","), name);
+    return library_call(before);
+}
+
 static bool in_both(int call)
 {
     if (call == FILL)
         return fills[0] && fills[1];
-    unsigned which = library_call(name_of(call == MASKED ? FASTA : call));
+    unsigned which = call_behind(name_of(call));
     return has[0][which] && has[1][which];
 }
 
@@ -147,8 +159,8 @@ static double print_call(int call, int reading, int64_t cost)
         product *= ratio;
     }
     double over_all = pow(product, 1.0 / WORDS);
-    printf("%9.3f%s\n", over_all, refused[call] ? "  refused!" : "");
-    return refused[call] ? INFINITY : over_all;
+    printf("%9.3f%s\n", over_all, astray[call] ? "  refused, or found wrongly!" : "");
+    return astray[call] ? INFINITY : over_all;
 }
 
 static void heading(const char *title, int reading)

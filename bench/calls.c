@@ -9,9 +9,10 @@
 const library linked_library = LIBRARY_OF_THIS_PROGRAM;
 const library *measured = &linked_library;
 
-#define BOTH(name, args)                                                               \
-    static uint64_t library_##name(struct sitting *s) { return measured->name args; } \
-    static uint64_t twins_##name(struct sitting *s) { return twin_##name args; }
+#define BOTH_AS(id, name, args)                                                      \
+    static uint64_t library_##id(struct sitting *s) { return measured->name args; } \
+    static uint64_t twins_##id(struct sitting *s) { return twin_##name args; }
+#define BOTH(name, args) BOTH_AS(name, name, args)
 
 static const uint8_t identifier[] = "chr1_sample";
 #define NAME identifier, sizeof identifier - 1
@@ -33,8 +34,15 @@ BOTH(longest_left, (s->store, s->length))
 BOTH(longest_right, (s->store, s->length))
 BOTH(row, (s->store, s->length, s->row))
 BOTH(spell, (s->store, s->length, s->row, s->out, s->out_length))
-BOTH(find, (s->store, s->length, s->piece, s->piece_length))
 BOTH(list, (s->store, s->length, NAME, s->scratch, s->scratch_length, s->out, s->out_length))
+
+#define FIND(id, call) \
+    BOTH_AS(id, find, (s->store, s->length, s->pieces[call - CALL_FIND].letters, s->pieces[call - CALL_FIND].length))
+FIND(find, CALL_FIND)
+FIND(find_outside, CALL_FIND_OUTSIDE)
+FIND(find_inside, CALL_FIND_INSIDE)
+FIND(find_alike, CALL_FIND_ALIKE)
+FIND(find_longer, CALL_FIND_LONGER)
 
 static uint64_t spell_by_loop(struct sitting *s)
 {
@@ -42,6 +50,7 @@ static uint64_t spell_by_loop(struct sitting *s)
 }
 
 #define CALL(name, changes) {#name, changes, library_##name, twins_##name}
+#define ABSENT(id, name) {name, false, library_##id, twins_##id}
 
 const struct call calls[PAIRS] = {
     [CALL_OPEN] = CALL(open, true),
@@ -62,6 +71,10 @@ const struct call calls[PAIRS] = {
     [CALL_ROW] = CALL(row, false),
     [CALL_SPELL] = CALL(spell, false),
     [CALL_FIND] = CALL(find, false),
+    [CALL_FIND_OUTSIDE] = ABSENT(find_outside, "find, breaks at 1"),
+    [CALL_FIND_INSIDE] = ABSENT(find_inside, "find, breaks inside"),
+    [CALL_FIND_ALIKE] = ABSENT(find_alike, "find, absent alike"),
+    [CALL_FIND_LONGER] = ABSENT(find_longer, "find, longer"),
     [CALL_LIST] = CALL(list, false),
     [CALL_SPELL_BY_LOOP] = {"spell, twin loops", false, library_spell, spell_by_loop},
 };
@@ -74,6 +87,37 @@ static unsigned longest_row(const uint8_t *b)
         if (get(b, r, LENGTH) > get(b, best, LENGTH))
             best = r;
     return best;
+}
+
+void make_alike(struct piece *to, int reading, size_t n)
+{
+    to->length = n;
+    make_word(RANDOM, to->letters, n);
+    if (n > 0)
+        to->letters[(n - 1) / 2] = 'G';
+    for (size_t i = 0; i < n / 2; i++)
+        to->letters[n - 1 - i] = partner_tables[reading][to->letters[i]];
+}
+
+void break_pair(struct piece *piece, size_t pair)
+{
+    uint8_t *letter = &piece->letters[piece->length - pair];
+    *letter = *letter == 'A' ? 'C' : 'A';
+}
+
+void make_pieces(struct sitting *s, int reading, size_t n)
+{
+    for (int find = CALL_FIND_OUTSIDE; find < CALL_FIND + FINDS; find++) {
+        struct piece *p = &s->pieces[find - CALL_FIND];
+        make_alike(p, reading, n - n % 2 + (find == CALL_FIND_LONGER ? 2 : 0));
+        if (broken_pair(find, n) != 0)
+            break_pair(p, broken_pair(find, n));
+    }
+}
+
+unsigned broken_pair(int find, size_t n)
+{
+    return find == CALL_FIND_OUTSIDE ? n >= 2 : find == CALL_FIND_INSIDE ? (unsigned)(n / 2) : 0;
 }
 
 void seat(struct sitting *s, int word, int reading, size_t n, size_t capacity)
@@ -91,6 +135,7 @@ void seat(struct sitting *s, int word, int reading, size_t n, size_t capacity)
     s->letter = letters[n];
     s->place = n / 2;
     s->row = longest_row(s->store);
-    uint64_t spelt = twin_spell(s->store, s->length, s->row, s->piece, sizeof s->piece);
-    s->piece_length = spelt >> 32 & 0xffff;
+    uint64_t spelt = twin_spell(s->store, s->length, s->row, s->pieces[0].letters, PIECE_MOST);
+    s->pieces[0].length = spelt >> 32 & 0xffff;
+    make_pieces(s, reading, n);
 }

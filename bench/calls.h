@@ -10,11 +10,11 @@
 #include "../tests/library.h"
 
 enum { CAPACITY_MOST = 1024, STORE_MOST = 48 * CAPACITY_MOST + 256, OUT_MOST = 45 * CAPACITY_MOST };
-enum { SCRATCH_MOST = 4 * CAPACITY_MOST };
+enum { SCRATCH_MOST = 4 * CAPACITY_MOST, PIECE_MOST = CAPACITY_MOST + 2 };
 
 /* The calls in the order of their table, and last the spelling call once more beside a twin that loops instead of
  * recursing. Both openings stand first, so that CALL_OPEN + reading gives that reading; CALL_TURN_PLAIN + reading turns
- * to it. */
+ * to it. Finding stands there five times: the longest palindrome, and four pieces that are absent (make_pieces). */
 enum {
     CALL_OPEN,
     CALL_OPEN_INVERTED,
@@ -34,16 +34,27 @@ enum {
     CALL_ROW,
     CALL_SPELL,
     CALL_FIND,
+    CALL_FIND_OUTSIDE,
+    CALL_FIND_INSIDE,
+    CALL_FIND_ALIKE,
+    CALL_FIND_LONGER,
     CALL_LIST,
     CALLS,
     CALL_SPELL_BY_LOOP = CALLS,
-    PAIRS
+    PAIRS,
+    FINDS = CALL_LIST - CALL_FIND
+};
+
+struct piece {
+    uint8_t letters[PIECE_MOST];
+    size_t length;
 };
 
 /* What a call is lent and told; the same store serves every call. */
 struct sitting {
-    uint8_t store[STORE_MOST], scratch[SCRATCH_MOST], out[OUT_MOST], piece[CAPACITY_MOST];
-    size_t length, scratch_length, out_length, piece_length;
+    uint8_t store[STORE_MOST], scratch[SCRATCH_MOST], out[OUT_MOST];
+    struct piece pieces[FINDS];
+    size_t length, scratch_length, out_length;
     uint64_t capacity, letter, place, row;
 };
 
@@ -67,8 +78,25 @@ static inline bool opens_otherwise(int call, int reading)
 
 static inline bool is_turn(int call) { return call == CALL_TURN_PLAIN || call == CALL_TURN_INVERTED; }
 
+static inline bool is_find(int call) { return call >= CALL_FIND && call < CALL_FIND + FINDS; }
+
+/* A piece of n letters that reads alike, but for the middle letter of an odd one in an inverted record. In its centre a G faces
+ * its partner, which is so in none of the words but random DNA: a search from the centre outwards would end there at once, and
+ * so has the least to set against a comparison of all pairs. */
+void make_alike(struct piece *to, int reading, size_t n);
+
+/* Breaks a pair, counted from the outside from 1, by another letter on its right. */
+void break_pair(struct piece *piece, size_t pair);
+
+/* The pieces that are absent from a record of n letters: one whose first pair breaks, one whose innermost pair does, one that
+ * reads alike and one that does and is longer than the record, each of an even length. */
+void make_pieces(struct sitting *s, int reading, size_t n);
+
+/* The pair that breaks in the piece of a find on a record of n letters, 0 for none. */
+unsigned broken_pair(int find, size_t n);
+
 /* A record of n letters of a word in a reading, 0 or 1, at the given capacity, with arguments that make each call work
- * hard: the row and the piece are those of the longest palindrome. */
+ * hard: the row and the first piece are those of the longest palindrome. */
 void seat(struct sitting *s, int word, int reading, size_t n, size_t capacity);
 
 #endif

@@ -1,17 +1,18 @@
 /* Whether the twin does the library's work: a benchmark of two programs that answer differently is worthless.
  *
- * Every call on every word in either reading, long random sittings from both ends, some with turns, full records of every
- * word taken away letter by letter, and damaged stores, in some of which a carried number alone is untrue, go through both, and
- * every answer and every lent byte must agree. Prints how many calls were compared, and ends with 1 at the first difference. */
+ * Every call on every word in either reading, pieces to find that are repeats, nearly are, read alike and are absent or are
+ * longer than the record, long random sittings from both ends, some with turns, full records of every word taken away letter by
+ * letter, and damaged stores, in some of which a carried number alone is untrue, go through both, and every answer and every lent
+ * byte must agree. Prints how many calls were compared, and ends with 1 at the first difference. */
 #include <stdio.h>
 #include <stdlib.h>
 #include <string.h>
 
 #include "calls.h"
-#include "cells.h"
+#include "twin.h"
 #include "words.h"
 
-enum { STEPS = 6000, BETWEEN_TURNS = 50 };
+enum { STEPS = 6000, BETWEEN_TURNS = 50, LONG_PIECE = 2 * 65540 };
 
 static struct sitting here, there;
 static unsigned long compared, refused;
@@ -65,7 +66,7 @@ static void compare_damaged(const char *where)
 static void tight(const struct sitting *s)
 {
     for (int i = CALL_SPELL; i < PAIRS; i++) {
-        if (i == CALL_FIND)
+        if (is_find(i))
             continue;
         here = there = *s;
         size_t fits = compare(&calls[i], "a large buffer") >> 32 & 0xffff;
@@ -94,6 +95,113 @@ static void readings(const struct sitting *s)
     }
 }
 
+/* The pieces that are timed are absent and break where their names say, or the names in the tables would be untrue. */
+static void as_named(const struct sitting *s, size_t n)
+{
+    here = there = *s;
+    for (int find = CALL_FIND_OUTSIDE; find < CALL_FIND + FINDS; find++)
+        if (compare(&calls[find], "a timed piece") != answer(false, 0, broken_pair(find, n), 0)) {
+            printf("bench/same: %s does not answer what its name says\n", calls[find].name);
+            exit(1);
+        }
+}
+
+static void compare_piece(const struct piece *piece, const char *where)
+{
+    here.pieces[0] = there.pieces[0] = *piece;
+    compare(&calls[CALL_FIND], where);
+}
+
+/* The repeat of a row, and pieces near it: with one letter changed, with one more in the middle, so that an even one becomes odd,
+ * and with each letter and its partner around it, most of which are absent. */
+static void near_row(const uint8_t *partners, unsigned row, uint32_t *seed)
+{
+    struct piece repeat = {.length = 0}, piece;
+    size_t n = repeat.length = twin_spell(here.store, here.length, row, repeat.letters, PIECE_MOST) >> 32 & 0xffff;
+    compare_piece(&repeat, "a repeat");
+    piece = repeat;
+    if (n > 0)
+        piece.letters[(next_random(seed) >> 8) % n] = (uint8_t)"ACGT"[next_random(seed) >> 30];
+    compare_piece(&piece, "nearly a repeat");
+    piece = repeat;
+    memmove(piece.letters + n / 2 + 1, piece.letters + n / 2, n - n / 2);
+    piece.letters[n / 2] = (uint8_t)"ACGT"[next_random(seed) >> 30];
+    piece.length = n + 1;
+    compare_piece(&piece, "a letter in the middle");
+    for (int i = 0; i < 4; i++) {
+        memcpy(piece.letters + 1, repeat.letters, n);
+        piece.letters[0] = (uint8_t)"ACGT"[i];
+        piece.letters[n + 1] = partners[piece.letters[0]];
+        piece.length = n + 2;
+        compare_piece(&piece, "letters around a repeat");
+    }
+}
+
+/* A piece of this length that reads alike, the same broken at some pairs, and one that is refused. */
+static void around_length(enum reading reading, size_t length)
+{
+    static struct piece alike, broken;
+    size_t pairs[] = {1, 2, length / 4, length / 2, length - length / 2};
+    make_alike(&alike, reading, length);
+    compare_piece(&alike, "a piece that reads alike");
+    for (size_t i = 0; i < sizeof pairs / sizeof *pairs; i++) {
+        broken = alike;
+        if (pairs[i] > 0 && pairs[i] <= length)
+            break_pair(&broken, pairs[i]);
+        compare_piece(&broken, "a broken piece");
+    }
+    if (length > 0)
+        broken.letters[length / 3] = 'N';
+    compare_piece(&broken, "a piece with a byte that is no letter");
+}
+
+/* Finding in a record of n letters of a word: about 50 of its repeats and what is near them, then pieces of few letters, and of
+ * about as many as the record has. */
+static void finds(int word, enum reading reading, size_t n)
+{
+    uint32_t seed = (uint32_t)word + 1;
+    seat(&here, word, reading, n, n + n / 8 + 3 < CAPACITY_MOST ? n + n / 8 + 3 : CAPACITY_MOST);
+    there = here;
+    unsigned rows = count_of(here.store), each = rows / 50 + 1;
+    for (unsigned rank = 0; rank < rows; rank += each)
+        near_row(partner_tables[reading], get(here.store, rank + 2, ORDER), &seed);
+    near_row(partner_tables[reading], EMPTY, &seed);
+    for (size_t length = 0; length < 8; length++)
+        around_length(reading, length);
+    for (size_t length = n < 2 ? 0 : n - 2; length <= n + 2; length++)
+        around_length(reading, length);
+}
+
+/* A piece so long that two bytes cannot tell each of its pairs: around the largest that they can. */
+static void long_piece(enum reading reading, size_t pair)
+{
+    static uint8_t letters[LONG_PIECE];
+    seat(&here, ALL_A, reading, 5, 9);
+    make_word(reading * WORDS + ALL_A, letters, LONG_PIECE);
+    if (pair > 0)
+        letters[LONG_PIECE - pair] = 'G';
+    uint64_t expected = answer(false, 0, pair < 65535 ? (unsigned)pair : 65535, 0);
+    compared++;
+    if (mirror_find(here.store, here.length, letters, LONG_PIECE) == expected
+        && twin_find(here.store, here.length, letters, LONG_PIECE) == expected)
+        return;
+    printf("bench/same: find of %d letters that break at pair %zu\n", LONG_PIECE, pair);
+    exit(1);
+}
+
+/* Pieces to find, of all kinds, in records of every word. */
+static void all_finds(enum reading reading)
+{
+    static const size_t sizes[] = {0, 1, 2, 9, 60, 125, 1000, 1024};
+    for (int word = 0; word < ALL_WORDS; word++)
+        for (size_t i = 0; i < sizeof sizes / sizeof *sizes; i++)
+            finds(word, reading, sizes[i]);
+    for (size_t pair = 65533; pair < 65540; pair++)
+        long_piece(reading, pair);
+    long_piece(reading, 0);
+    long_piece(reading, LONG_PIECE / 2);
+}
+
 /* The inputs that the benchmark times, and the largest records; each word in both readings, since one that was made for
  * the other has few repeats or none. */
 static void on_words(enum reading reading)
@@ -105,6 +213,8 @@ static void on_words(enum reading reading)
             seat(&s, word, reading, sizes[i], sizes[i] + 24);
             compare_all(&s, word_names[word]);
             tight(&s);
+            if (sizes[i] >= 125)
+                as_named(&s, sizes[i]);
         }
         seat(&s, word, reading, 1024, 1024);
         compare_all(&s, word_names[word]);
@@ -115,13 +225,19 @@ static void on_words(enum reading reading)
     }
 }
 
-/* A piece to find: a short stretch of the record. */
-static void draw_piece(uint32_t r)
+/* Pieces to find: a short stretch of the record, and the same with each letter at one of its places. */
+static void draw_pieces(uint32_t r)
 {
     size_t n = size_of(here.store), from = n == 0 ? 0 : r % n, length = r / 1024 % 9;
-    here.piece_length = there.piece_length = length < n - from ? length : n - from;
-    memcpy(here.piece, letters_of(here.store) + from, here.piece_length);
-    memcpy(there.piece, here.piece, here.piece_length);
+    struct piece *pieces = here.pieces;
+    pieces[0].length = length < n - from ? length : n - from;
+    memcpy(pieces[0].letters, letters_of(here.store) + from, pieces[0].length);
+    for (int i = 1; i < FINDS; i++) {
+        pieces[i] = pieces[0];
+        if (pieces[i].length > 0)
+            pieces[i].letters[r / 9216 % pieces[i].length] = (uint8_t)"ACGT"[i % 4];
+    }
+    memcpy(there.pieces, pieces, sizeof there.pieces);
 }
 
 /* What a sitting does at a step: it adds and removes at both ends, with a question now and then, and a turn, which may be
@@ -148,7 +264,7 @@ static void sitting(uint32_t seed, enum reading reading, size_t capacity, const 
         here.letter = there.letter = (uint64_t)letters[r % strlen(letters)];
         here.row = there.row = r / 7 % (capacity + 3);
         here.place = there.place = r / 11 % (capacity + 1);
-        draw_piece(r / 13);
+        draw_pieces(r / 13);
         compare(&calls[next_call(r, i, turning)], turning ? "a sitting that turns" : "a sitting");
     }
 }
@@ -245,6 +361,7 @@ int main(void)
 {
     for (int reading = PLAIN; reading <= INVERTED; reading++) {
         on_words(reading);
+        all_finds(reading);
         for (int word = 0; word < ALL_WORDS; word++)
             taken_away((uint32_t)word + 1, word, reading);
         sitting(7, reading, 40, reading == PLAIN ? "AC" : "AT", false);

@@ -54,14 +54,19 @@ static int by_size(const void *a, const void *b)
     return x < y ? -1 : x > y;
 }
 
+double middle_of(double *ratios, size_t n)
+{
+    qsort(ratios, n, sizeof *ratios, by_size);
+    return ratios[n / 2];
+}
+
 /* The middle one of the ratios of all rounds. */
 static double middle_ratio(const int questions[2], bool twin)
 {
     double ratios[RATIO_ROUNDS];
     for (int i = 0; i < RATIO_ROUNDS; i++)
         ratios[i] = round_ratio(questions, twin);
-    qsort(ratios, RATIO_ROUNDS, sizeof *ratios, by_size);
-    return ratios[RATIO_ROUNDS / 2];
+    return middle_of(ratios, RATIO_ROUNDS);
 }
 
 struct pair time_ratio(const int questions[2], int word, int reading, size_t n)

@@ -2,6 +2,7 @@
 #ifndef BENCH_TIMING_H
 #define BENCH_TIMING_H
 
+#include <stdbool.h>
 #include <stddef.h>
 #include <stdint.h>
 #include <stdio.h>
@@ -13,8 +14,9 @@ struct pair {
 
 /* The ratio that a tested call may reach at 1,000 letters, the one for reading FASTA, the one of a call on an inverted record
  * to the same call on a plain one with as many letters and rows, the one of a turn to length on the same record, the one of the
- * longest length to length, each of which is the test and one read, and the one of a removal or the longest at an end to an
- * addition there, since each reads the letters once. How many ratios to the twin are above the aim is told, and no failure. */
+ * longest length to length, each of which is the test and one read, the one of a removal or the longest at an end to an
+ * addition there, since each reads the letters once, and the one of finding a long piece that breaks at its first pair to testing
+ * its letters. How many ratios to the twin are above the aim is told, and no failure. */
 #define RATIO_LIMIT 1.5
 #define RATIO_AIM 1.1
 #define FASTA_LIMIT 1.2
@@ -22,6 +24,7 @@ struct pair {
 #define TURN_LIMIT 3.0
 #define LONGEST_LENGTH_LIMIT 1.02
 #define END_LIMIT 1.2
+#define FIRST_PAIR_LIMIT 1.05
 
 /* One call on n letters of a word in a reading, 0 or 1; the smallest of many samples, library and twin one after the other. */
 struct pair time_call(int call, int word, int reading, size_t n, int samples);
@@ -30,6 +33,15 @@ struct pair time_call(int call, int word, int reading, size_t n, int samples);
  * is nearer than the smallest of many samples keeps still: on random DNA that strays by 2 in 100 with the same code on both
  * sides. So the two are timed in turn in many rounds, and the middle one of the rounds' ratios counts. */
 struct pair time_ratio(const int questions[2], int word, int reading, size_t n);
+
+/* The middle one of an odd number of ratios, which are put in order. */
+double middle_of(double *ratios, size_t n);
+
+/* Finding a piece of a million letters that breaks at its first pair, over finding the same piece with N as its last letter,
+ * which is refused as soon as the letters are tested; and nanoseconds for each letter of a piece that reads alike, or of that
+ * which is refused. In a record of a reading; in the library and in the twin. */
+struct pair time_first_pair(int reading);
+struct pair time_long(int reading, bool alike);
 
 /* One pass that reads the bytes that a store of this capacity uses. */
 double time_floor(size_t capacity, int samples);

@@ -119,6 +119,28 @@ uint64_t twin_spell_by_loop(const uint8_t *store, size_t length, uint64_t row, u
     return answer(false, 0, (unsigned)n, 0);
 }
 
+/* The first pair of a piece, from the outside and counted from 1, whose letters are not partners; 0 where all are. The middle
+ * letter of an odd piece faces itself. */
+static size_t broken_at(const uint8_t *piece, size_t n, const uint8_t *partners)
+{
+    for (size_t i = 0; i < n - n / 2; i++)
+        if (piece[i] != partners[piece[n - 1 - i]])
+            return i + 1;
+    return 0;
+}
+
+/* The row of a piece that reads alike, by the edges from its centre outwards; 0 where it stands nowhere. */
+static unsigned row_of_piece(const uint8_t *b, const uint8_t *piece, size_t n)
+{
+    unsigned row = n % 2 == 0 ? EMPTY : IMAGINARY;
+    for (size_t k = n / 2; k < n; k++) {
+        row = edge_of(b, row, piece[k]);
+        if (row == 0)
+            break;
+    }
+    return row;
+}
+
 uint64_t twin_find(const uint8_t *store, size_t length, const uint8_t *piece, size_t n)
 {
     if (!twin_is_good(store, length))
@@ -128,16 +150,9 @@ uint64_t twin_find(const uint8_t *store, size_t length, const uint8_t *piece, si
     for (size_t i = 0; i < n; i++)
         if (!letter_table[piece[i]])
             return 4;
-    if (n > size_of(store))
-        return 0;
-    const uint8_t *partners = partners_of(store);
-    unsigned row = n % 2 == 0 ? EMPTY : IMAGINARY;
-    for (size_t k = n / 2; k < n; k++) {
-        if (piece[n - 1 - k] != partners[piece[k]])
-            return 0;
-        row = edge_of(store, row, piece[k]);
-        if (row == 0)
-            return 0;
-    }
-    return answer(true, row, 0, 0);
+    size_t pair = broken_at(piece, n, partners_of(store));
+    if (pair != 0)
+        return answer(false, 0, pair < 65535 ? (unsigned)pair : 65535, 0);
+    unsigned row = n > size_of(store) ? 0 : row_of_piece(store, piece, n);
+    return answer(row != 0, row, 0, 0);
 }

@@ -150,10 +150,13 @@ static uint64_t make_find(const struct line *l)
     return mirror_find(store, sizeof store, (const uint8_t *)l->words[1], strlen(l->words[1]));
 }
 
+/* The pair at which an absent piece breaks, counted from the outside; the largest number stands for every later pair too. */
 static void say_find(const struct line *l, uint64_t answer)
 {
+    unsigned pair = mirror_first(answer);
     (void)l;
     printf(mirror_flag(answer) ? "row %u" : "absent", mirror_row_of(answer));
+    if (pair) printf(", pair %u%s", pair, pair < 65535 ? " breaks" : " or later breaks");
 }
 
 static uint64_t make_list(const struct line *l)

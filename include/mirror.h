@@ -70,6 +70,10 @@ uint64_t mirror_longest_right(const uint8_t *store, size_t length);
 uint64_t mirror_letter(const uint8_t *store, size_t length, uint64_t place);
 uint64_t mirror_row(const uint8_t *store, size_t length, uint64_t row);
 uint64_t mirror_spell(const uint8_t *store, size_t length, uint64_t row, uint8_t *out, size_t out_length);
+/* Whether a piece is a repeat of the record, and its row; and as the first number where it and its reversal disagree first: the
+ * pair of letters as far from the two ends, counted from the outside from 1, 0 where all agree, and 65,535 for that pair and
+ * any later one. In an inverted record a letter must be the partner of the one that faces it; the middle letter of an odd piece
+ * faces itself and is the last pair. So 0 with no flag says that the piece reads alike and does not stand in the record. */
 uint64_t mirror_find(const uint8_t *store, size_t length, const uint8_t *piece, size_t piece_length);
 uint64_t mirror_list(const uint8_t *store, size_t length, const uint8_t *identifier, size_t identifier_length,
                      uint8_t *scratch, size_t scratch_length, uint8_t *out, size_t out_length);

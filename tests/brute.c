@@ -10,12 +10,18 @@ const unsigned char *brute_rule(unsigned reading)
     return rules[reading];
 }
 
+size_t brute_mismatch(const unsigned char *rule, const unsigned char *w, size_t n)
+{
+    for (size_t pair = 1; 2 * pair <= n + 1; pair++) {
+        unsigned char left = w[pair - 1], right = w[n - pair];
+        if (left != rule[right] || right != rule[left]) return pair;
+    }
+    return 0;
+}
+
 int brute_palindrome(const unsigned char *rule, const unsigned char *w, size_t n)
 {
-    if (n == 0) return 0;
-    for (size_t i = 0; i < n; i++)
-        if (w[i] != rule[w[n - 1 - i]]) return 0;
-    return 1;
+    return n > 0 && brute_mismatch(rule, w, n) == 0;
 }
 
 size_t brute_places(const unsigned char *p, size_t m, const unsigned char *s, size_t n, size_t *first)

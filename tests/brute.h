@@ -12,7 +12,10 @@ enum { PLAIN, INVERTED, READINGS };
 /* The partner rule of a reading: each byte by itself, or A with T, C with G and every other byte by itself. */
 const unsigned char *brute_rule(unsigned reading);
 
-/* Whether w, not empty, equals its reversal with every letter replaced by its partner. */
+/* The first pair, counted from the outside starting at 1, of which one letter is not the partner of the other, and 0 where
+ * there is none. The middle letter of an odd word faces itself and is the last pair. */
+size_t brute_mismatch(const unsigned char *rule, const unsigned char *w, size_t n);
+/* Whether w, not empty, has no such pair: it equals its reversal with every letter replaced by its partner. */
 int brute_palindrome(const unsigned char *rule, const unsigned char *w, size_t n);
 /* How many places the piece has in s, and the first of them (n + 1 where there is none). */
 size_t brute_places(const unsigned char *p, size_t m, const unsigned char *s, size_t n, size_t *first);

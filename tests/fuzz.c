@@ -5,8 +5,9 @@
  * The first byte gives the capacity and, from 128 on, an inverted record. Then: acgt add at the right, ACGT at the left,
  * < and > remove at an end, ? and a byte ask a question, ! and three bytes change a byte, = and three bytes set a cell, # and
  * two bytes do one of the kinds of damages.c, ~ takes the last good store again, / and a byte change the length lent, @ and a
- * byte open again, & and a byte open an inverted record, p and i turn to the plain and to the inverted reading. Any other byte
- * is added as a letter that is none. A missing argument is 0. */
+ * byte open again, & and a byte open an inverted record, p and i turn to the plain and to the inverted reading, % and four bytes
+ * find a repeat of the record, or any stretch of it, with one letter changed. Any other byte is added as a letter that is
+ * none. A missing argument is 0. */
 #include "damages.h"
 #include "guard.h"
 #include "oracle.h"
@@ -59,6 +60,25 @@ static void ask(void)
     oracle(store, length, &c);
 }
 
+/* A piece that is nearly a repeat: what a row in use spells, or any stretch of the record where the byte names no such row, now
+ * and then with its mirror image behind it, and then one letter set to any of the four. */
+static void ask_near(void)
+{
+    static shown s;
+    unsigned char text[2 * TEXT];
+    unsigned row = next(), more = next(), place = next(), letter = next();
+    if (judge(store, length, &s) != NULL || s.size == 0 || s.size > TEXT) return;
+    stretch part = s.rows[row % (s.capacity + 2)]; /* 0 to 0 where no repeat has the row */
+    if (part.end == 0) part.start = row % s.size, part.end = part.start + 1 + more / 2 % (s.size - part.start);
+    size_t n = part.end - part.start;
+    memcpy(text, s.letters + part.start, n);
+    for (size_t i = 0; i < n; i++) text[2 * n - 1 - i] = s.rule[text[i]];
+    if (more % 2) n *= 2;
+    text[place % n] = (unsigned char)"ACGT"[letter % 4];
+    call c = {FIND, 0, text, n, 0, 0};
+    oracle(store, length, &c);
+}
+
 /* damage that needs a good store to start from; what was good is kept for ~ */
 static void spoil(void)
 {
@@ -96,6 +116,7 @@ static void one(unsigned what)
     case 'p': make(TURN_PLAIN, 0); break;
     case 'i': make(TURN_INVERTED, 0); break;
     case '?': ask(); break;
+    case '%': ask_near(); break;
     case '!': at = (next() * 256 + next()) % whole; store[at] = (uint8_t)next(); break;
     case '=': at = next() % 26; what = next(); layout_put(store, at % (whole / 48), what % ROW_CELLS, next()); break;
     case '#': spoil(); break;
@@ -134,7 +155,7 @@ static void run(FILE *in)
 /* inputs that look random, mostly of bytes that mean something */
 static void run_random(const char *seed, int rounds)
 {
-    static const char meant[] = "acgtACGTacgtACGT<>?#~!=/@&pi";
+    static const char meant[] = "acgtACGTacgtACGT<>?%#~!=/@&pi";
     uint8_t data[200];
     for (int i = 0; i < rounds; i++) {
         random_seed(NULL, strtoull(seed, NULL, 10) * 1000003u + 2u * (unsigned)i + 1);

@@ -2,8 +2,8 @@
  * here only; the starred ones are proved (crates/known_answers) and run here too, at several capacities and built from either end.
  * A key is compared as it stands in the table, and no other program is asked. Beside the table: small letters are refused,
  * the keys of inverted records that 02 (vi) and source 004 have, records that are turned, 02 (vii), how many repeats of each
- * length a store carries, 02 (ii), and what additions report of their search, 02 (xiii). Keys that ask for no repeat are run with
- * either opening. */
+ * length a store carries, 02 (ii), what additions report of their search, 02 (xiii), and where a piece breaks, 02 (x). Keys that
+ * ask for no repeat are run with either opening. */
 #include "mirror.h"
 #include <stdio.h>
 #include <stdlib.h>
@@ -49,10 +49,16 @@ static uint64_t found(const char *piece)
     return mirror_find(store, length, (const uint8_t *)piece, strlen(piece));
 }
 
+/* the piece is absent, and its first pair that breaks is this one, counted from the outside starting at 1; 0 for none */
+static void breaks(const char *piece, uint64_t pair)
+{
+    key(piece, pair << 32, found(piece));
+}
+
 static uint64_t row_of(const char *piece)
 {
     uint64_t answer = found(piece);
-    key("found", 1, mirror_flag(answer));
+    key("found, and no pair breaks", 1ull << 8 | (uint64_t)mirror_row_of(answer) << 16, answer);
     return mirror_row_of(answer);
 }
 
@@ -74,7 +80,7 @@ static void goes(int left, char letter, const char *repeat)
 {
     uint64_t row = repeat ? row_of(repeat) : 0, wanted = (uint64_t)(repeat != NULL) << 8 | row << 16 | (uint64_t)letter << 32;
     key("removal", wanted, left ? mirror_remove_left(store, length) : mirror_remove_right(store, length));
-    if (repeat) key("what went is absent", 0, found(repeat));
+    if (repeat) breaks(repeat, 0);
 }
 
 /* ---- without a star */
@@ -159,7 +165,7 @@ static void longer_records(uint64_t capacity, int from_left)
     answer = mirror_row(store, length, row_of("ACCA"));
     key("link of ACCA", row_of("A"), mirror_row_of(answer));
     key("inner of ACCA", row_of("CC"), mirror_second(answer));
-    key("find GG", 0, found("GG"));
+    breaks("GG", 0);
     record(mirror_open, "ACGAAG", capacity, from_left);
     key("count", 5, count());
     longest(4, 2);
@@ -190,8 +196,8 @@ static void three_repeats(void)
     key("count", 3, count());
     listed("e1\t2\t4\ne1\t1\t5\ne1\t0\t6\n");
     longest(6, 0);
-    key("find A", 0, found("A"));
-    key("find TT", 0, found("TT"));
+    breaks("A", 1);
+    breaks("TT", 1);
     key("row of AT", 1ull << 16 | 2ull << 32 | 1ull << 48, mirror_row(store, length, row_of("AT")));
     key("row of AATT", 1ull << 16 | 4ull << 32 | row_of("AT") << 48, mirror_row(store, length, row_of("AATT")));
     key("row of GAATTC", 1ull << 16 | 6ull << 32 | row_of("AATT") << 48, mirror_row(store, length, row_of("GAATTC")));
@@ -217,7 +223,7 @@ static void without_repeat(const char *letters, uint64_t capacity, int from_left
     longest(0, 0);
     key("nothing at the left: row 1", 1ull << 16, mirror_longest_left(store, length));
     key("nothing at the right: row 1", 1ull << 16, mirror_longest_right(store, length));
-    key("find all of it", 0, found(letters));
+    breaks(letters, strlen(letters) / 2 + 1); /* each pair agrees but for the middle letter, the last one */
 }
 
 /* 02 (vi): what a record answers that has no letter, or no repeat: 004's AGTCT, where T faces itself in the middle */
@@ -277,7 +283,7 @@ static void there_and_back(uint64_t capacity, int from_left)
     key("turn plain", 0, mirror_turn_plain(store, length));
     numbered(plain, 6);
     listed("e1\t0\t1\ne1\t1\t2\ne1\t1\t3\ne1\t3\t4\ne1\t3\t5\ne1\t5\t6\n");
-    key("AT is absent", 0, found("AT"));
+    breaks("AT", 1);
     key("turn inverted again", 0, mirror_turn_inverted(store, length));
     three_repeats();
 }
@@ -466,6 +472,94 @@ static void longest_search(void)
     key("C after 1,023 A", 1ull << 8 | 1025ull << 16 | 1024ull << 32, mirror_add_right(store, length, 'C'));
 }
 
+/* ---- where the mirror breaks, 02 (x) */
+
+/* CCAC breaks at 2 in every plain record: not there, there, and longer than the record; odd pieces never in the middle */
+static void breaks_plain(uint64_t capacity, int from_left)
+{
+    static const char *const records[] = {"", "A", "CC", "CCA", "CCAC", "CACCAC", "GGTGGT"};
+    for (size_t i = 0; i < sizeof records / sizeof records[0]; i++) {
+        record(mirror_open, records[i], capacity, from_left);
+        breaks("CCAC", 2);
+        breaks("CCAT", 1);
+        breaks("CCACC", 0);
+        breaks("ACAGACA", 0);
+        breaks("ACAGATA", 2);
+        breaks("ACTGACA", 3);
+        breaks("ACGTACGTTGCATGCA", 0);
+        breaks("ACGTACGATGCATGCA", 8);
+    }
+    record(mirror_open, "ACCACG", capacity, from_left);
+    row_of("ACCA");
+    breaks("CCAC", 2);
+    breaks("CCACG", 1);
+    breaks("GG", 0);
+    breaks("ACCACG", 1);
+    breaks("ACCACGT", 1);
+    breaks("ACCACCA", 0);
+}
+
+/* the middle letter of an odd piece faces itself and is the last pair: no letter is its own partner */
+static void breaks_inverted(uint64_t capacity, int from_left)
+{
+    static const char *const records[] = {"", "A", "GAATTC", "AGTCT", "TTTTTT"};
+    for (size_t i = 0; i < sizeof records / sizeof records[0]; i++) {
+        record(mirror_open_inverted, records[i], capacity, from_left);
+        breaks("AGTCT", 3);
+        breaks("AGACT", 3);
+        breaks("AGTCC", 1);
+        breaks("AGTGT", 2);
+        breaks("A", 1), breaks("C", 1), breaks("G", 1), breaks("T", 1);
+        breaks("CCAC", 1);
+        breaks("GCAC", 2);
+        breaks("CAATTC", 1);
+        breaks("GTATTC", 2);
+        breaks("GAATGC", 2);
+        breaks("GAAATC", 3);
+        breaks("GACTTC", 3);
+        breaks("ACGTACGTACGT", 0);
+    }
+    record(mirror_open_inverted, "GAATTC", capacity, from_left);
+    row_of("GAATTC");
+    breaks("TTAA", 0);
+    breaks("GAATTCG", 1);
+    breaks("CGAATTCG", 0);
+}
+
+/* one record in both readings: a repeat of one breaks at its first pair in the other */
+static void breaks_turned(uint64_t capacity)
+{
+    record(mirror_open, "GAATTC", capacity, 0);
+    breaks("GAATTC", 1);
+    breaks("GAAGAG", 3);
+    key("turn inverted", 0, mirror_turn_inverted(store, length));
+    row_of("GAATTC");
+    breaks("AA", 1);
+    breaks("GAAGAG", 1);
+    breaks("GAAATC", 3);
+    key("turn plain", 0, mirror_turn_plain(store, length));
+    row_of("AA");
+    breaks("GAATTC", 1);
+}
+
+/* 1,024 letters in a piece and in the record, with one letter in the middle changed, and one letter more */
+static void breaks_in_the_middle(void)
+{
+    char letters[1027] = "";
+    memset(letters, 'A', 1024);
+    record(mirror_open, letters, 1024, 0);
+    sitting = "1,024 A";
+    row_of(letters);
+    letters[512] = 'C';
+    breaks(letters, 512);
+    letters[511] = 'C';
+    breaks(letters, 0);
+    letters[1024] = 'A';
+    breaks(letters, 512);
+    letters[1025] = 'A';
+    breaks(letters, 512);
+}
+
 /* the keys that ask for no repeat */
 static void either_reading(opening *open)
 {
@@ -503,8 +597,16 @@ int main(void)
         searches(capacities[k]);
         searches_after_turns(capacities[k]);
     }
+    for (size_t k = 0; k < sizeof capacities / sizeof capacities[0]; k++) {
+        for (int from_left = 0; from_left < 2; from_left++) {
+            breaks_plain(capacities[k], from_left);
+            breaks_inverted(capacities[k], from_left);
+        }
+        breaks_turned(capacities[k]);
+    }
     longest_of_all();
     longest_search();
+    breaks_in_the_middle();
     printf("%lu keys\n", compared);
     return 0;
 }

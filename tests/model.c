@@ -78,6 +78,27 @@ static uint64_t find(const unsigned char *w, size_t n)
     return mirror_find(store, store_length, guarded(PIECE_SLOT, w, n), n);
 }
 
+/* what find answers for any letters: the row of a repeat that stands, and 0 as its pair, or the pair at which they break */
+static void ask_find(const char *what, const unsigned char *w, size_t n)
+{
+    long i = known(w, n);
+    same(what, i < 0 ? packed(0, 0, brute_mismatch(rule, w, n), 0) : packed(1, repeats[i].row, 0, 0), find(w, n));
+}
+
+static unsigned char another(unsigned char letter)
+{
+    return letter == 'A' ? 'C' : letter == 'C' ? 'G' : letter == 'G' ? 'T' : 'A';
+}
+
+/* a repeat with the letter at one place changed */
+static void ask_near(const unsigned char *w, size_t n, size_t place)
+{
+    unsigned char near[MODEL_MOST];
+    memcpy(near, w, n);
+    near[place] = another(near[place]);
+    ask_find("find a repeat with one letter changed", near, n);
+}
+
 /* one repeat: found at its row, with the fields that its letters give, and spelt */
 static void ask_repeat(size_t i)
 {
@@ -89,6 +110,7 @@ static void ask_repeat(size_t i)
     uint8_t *out = guard_room(OUT_SLOT, n);
 
     same("find", packed(1, row, 0, 0), find(w, n));
+    ask_near(w, n, (model_calls + i) % n);
     same("row", packed(0, link_row, n, inner_row), mirror_row(store, store_length, row));
     same("spell", packed(0, 0, n, 0), mirror_spell(store, store_length, row, out, n));
     if (memcmp(out, w, n) != 0) fail("spelt bytes", 0, 0);
@@ -119,6 +141,23 @@ static void ask_other_rows(void)
     same("row 1 spelt", 0, mirror_spell(store, store_length, 1, guard_room(OUT_SLOT, 0), 0));
 }
 
+/* pieces longer than the record: the record and its mirror image, which read alike until a letter in the middle is changed, and
+ * what lies in and about them */
+static void ask_long_pieces(void)
+{
+    unsigned char piece[2 * MODEL_MOST + 1];
+    if (length == 0) return;
+    memcpy(piece, letters, length);
+    for (size_t i = 0; i < length; i++) piece[2 * length - 1 - i] = rule[letters[i]];
+    piece[2 * length] = letters[length - 1];
+    same("find the record and its mirror image", 0, find(piece, 2 * length));
+    ask_find("find these and a letter more", piece, 2 * length + 1);
+    ask_find("find these from the second letter on", piece + 1, 2 * length);
+    ask_find("find the record and a letter more", piece, length + 1);
+    piece[length] = another(piece[length]);
+    same("find the record and its mirror image, changed in the middle", packed(0, 0, length, 0), find(piece, 2 * length));
+}
+
 /* pieces that are no repeats: every short stretch of the record, its neighbours, and what find refuses */
 static void ask_pieces(void)
 {
@@ -129,11 +168,13 @@ static void ask_pieces(void)
             piece[at]++;
             same("find, no letter", 4, find(piece + at, n));
             piece[at]--;
-            if (known(piece + at, n) < 0) same("find a piece that is no repeat", 0, find(piece + at, n));
+            ask_find("find a short piece", piece + at, n);
         }
+    if (length > 0) ask_find("find the record", piece, length);
     memset(piece, 'A', length + 1);
-    if (known(piece, length) < 0 && length > 0) same("find as many A as letters", 0, find(piece, length));
-    same("find a piece longer than the record", 0, find(piece, length + 1));
+    if (length > 0) ask_find("find as many A as letters", piece, length);
+    same("find a piece longer than the record", packed(0, 0, reading == PLAIN ? 0 : 1, 0), find(piece, length + 1));
+    ask_long_pieces();
     same("find nothing", 8, find(piece, 0));
     same("find N", 4, find((const unsigned char *)"ANA", 3));
     same("find a small letter", 4, find((const unsigned char *)&"acgt"[length % 4], 1));
@@ -353,6 +394,8 @@ void model_turn(unsigned to)
     model_turns++;
     reading = to;
     rule = brute_rule(reading);
+    /* two letters that face each other agree in one reading at most, so what read alike before breaks at its first pair */
+    for (size_t i = 0; i < count; i++) same("find what was a repeat", packed(0, 0, 1, 0), find(repeats[i].word, repeats[i].length));
     count = 0;
     size_t n = brute_list(rule, letters, length, list);
     for (size_t i = 0; i < n; i++) {

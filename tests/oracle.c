@@ -103,7 +103,8 @@ static uint64_t find_answer(const call *c)
     for (size_t i = 0; i < c->text_length; i++)
         if (!letter(c->text[i])) return 4;
     unsigned row = c->text_length > was.size ? 0 : judge_row(&was, c->text, c->text_length);
-    return packed(row != 0, row, 0, 0);
+    size_t pair = brute_mismatch(was.rule, c->text, c->text_length);
+    return packed(row != 0, row, pair < 65535 ? pair : 65535, 0);
 }
 
 static uint64_t list_answer(const call *c)

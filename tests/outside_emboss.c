@@ -152,7 +152,7 @@ static void read_account(const char *path, size_t shortest)
 }
 
 /* every place whose arms cannot be longer, and are long enough, is in the account, and no other place is; with the letters
- * before and after it, it is absent */
+ * before and after it, it is absent, and these two are the first pair that breaks */
 static void nothing_left_out(size_t shortest)
 {
     size_t tried = 0;
@@ -162,7 +162,8 @@ static void nothing_left_out(size_t shortest)
             if ((inside && reads_alike(start - 1, arm + 1)) || !reads_alike(start, arm)) continue;
             if (!reported[start][arm]) wrong("not reported", start, arm);
             const uint8_t *before = (const uint8_t *)letters + start - 1;
-            if (inside && mirror_find(store, sizeof store, before, 2 * arm + 2) != 0) wrong("found with a letter more", start, arm);
+            if (inside && mirror_find(store, sizeof store, before, 2 * arm + 2) != 1ull << 32)
+                wrong("with a letter more on either side it is not absent, or breaks elsewhere", start, arm);
             tried++;
         }
     if (tried == places) return;

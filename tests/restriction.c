@@ -2,8 +2,9 @@
  * strands is a repeat of every inverted record that holds it, and is found there; any other is absent, though it stands. The
  * records are a site between random letters, put together at the right or at both ends and taken apart again, and each site
  * alone. Some are opened inverted; others plain, where no site of the first kind is found, and are turned to the inverted
- * reading then. The longest length is that of the longest stretch that reads alike. Whether letters read alike is tried here in
- * a few lines, and no other test's program is asked. A wrong answer is told on standard error, and the program ends with 1. */
+ * reading then. An absent site is told with the pair at which it breaks, in the record's reading. The longest length is that of
+ * the longest stretch that reads alike. Whether letters read alike is tried here in a few lines, and no other test's program is
+ * asked. A wrong answer is told on standard error, and the program ends with 1. */
 #include "mirror.h"
 #include "random.h"
 #include <stdio.h>
@@ -70,12 +71,21 @@ static char partner(char c)
     return c == 'A' ? 'T' : c == 'T' ? 'A' : c == 'C' ? 'G' : 'C';
 }
 
+/* the first pair from the outside, counted from 1, that breaks: in an inverted record the letters are held against their reverse
+ * complement, in a plain one against their reversal; 0 where none does */
+static uint64_t breaks(const char *w, size_t n, int inverted)
+{
+    for (size_t i = 0; i < n; i++) {
+        char facing = w[n - 1 - i];
+        if (w[i] != (inverted ? partner(facing) : facing)) return i + 1;
+    }
+    return 0;
+}
+
 /* whether the stretch equals its reverse complement */
 static int reads_alike(const char *w, size_t n)
 {
-    for (size_t i = 0; i < n; i++)
-        if (w[i] != partner(w[n - 1 - i])) return 0;
-    return n > 0;
+    return n > 0 && breaks(w, n, 1) == 0;
 }
 
 static void holds_the_letters(void)
@@ -133,14 +143,22 @@ static void is_found(const char *piece, size_t n)
     key("spelling", 0, memcmp(spelt, piece, n) != 0);
 }
 
-/* each site of the table is found where it stands and reads alike, and is absent otherwise */
-static void every_site(const entry *sites, size_t count, int found)
+/* the piece is absent from a record that is read so, and told with the pair at which it breaks */
+static void is_absent(const char *piece, size_t n, int inverted)
+{
+    key("absent", breaks(piece, n, inverted) << 32, find(piece, n));
+}
+
+/* each site of the table is found in an inverted record where it stands and reads alike, and is absent otherwise; a plain record
+ * is asked only for sites of the first table, and has none */
+static void every_site(const entry *sites, size_t count, int inverted)
 {
     const entry *of_the_record = at_hand;
     for (size_t i = 0; i < count; i++) {
+        const char *site = sites[i].site;
         at_hand = &sites[i];
-        if (found && strstr(letters, sites[i].site)) is_found(sites[i].site, strlen(sites[i].site));
-        else key("absent", 0, find(sites[i].site, strlen(sites[i].site)));
+        if (inverted && reads_alike(site, strlen(site)) && strstr(letters, site)) is_found(site, strlen(site));
+        else is_absent(site, strlen(site), inverted);
     }
     at_hand = of_the_record;
 }
@@ -182,11 +200,11 @@ static void between_flanks(const entry *e, int at_both_ends, int turned)
     record(turned ? mirror_open : mirror_open_inverted, at_both_ends ? before + m / 2 : 0);
     if (turned) turn_inverted();
     every_site(even, EVEN, 1);
-    every_site(uneven, UNEVEN, 0);
+    every_site(uneven, UNEVEN, 1);
     longest_length();
     take_apart(before, after);
     every_site(even, EVEN, 1);
-    every_site(uneven, UNEVEN, 0);
+    every_site(uneven, UNEVEN, 1);
     longest_length();
     take_apart(m / 2, m - m / 2);
     key("repeats of no letters", 0, mirror_count(store, length));
@@ -222,14 +240,14 @@ static void alone(const entry *e, int found)
     key("list", 0, memcmp(wanted, got, bytes) != 0);
     longest_length();
     if (!found) {
-        key("absent", 0, find(e->site, n));
+        is_absent(e->site, n, 1);
         return;
     }
     uint64_t row = mirror_row_of(find(e->site, n));
     is_found(e->site, n);
     key("longest", (uint64_t)n << 32, mirror_longest(store, length));
     key("goes", 1 << 8 | row << 16 | (uint64_t)e->site[n - 1] << 32, mirror_remove_right(store, length));
-    key("absent", 0, find(e->site, n));
+    is_absent(e->site, n, 1);
     key("longest length without it", (uint64_t)(n - 2) << 32, mirror_longest_length(store, length));
     key("comes", 1 << 8 | row << 16, mirror_add_right(store, length, (unsigned char)e->site[n - 1]));
     key("longest length with it", (uint64_t)n << 32, mirror_longest_length(store, length));

@@ -168,8 +168,11 @@ static void say_spelling(unsigned row, char *said)
 
 static void say_found(const char *piece, char *said)
 {
-    const repeat *r = find((const unsigned char *)piece, strlen(piece));
+    const unsigned char *word = (const unsigned char *)piece;
+    const repeat *r = find(word, strlen(piece));
+    size_t pair = brute_mismatch(rule, word, strlen(piece));
     if (r) sprintf(said, "row %u", r->row);
+    else if (pair > 0) sprintf(said, "absent, pair %zu breaks", pair);
     else strcpy(said, "absent");
 }
 
