@@ -37,7 +37,7 @@ static int64_t least[ALL][BOTH_WORDS][2];
 static bool astray[ALL]; /* refused, or a piece found that is absent, or the other way round */
 static volatile uint64_t sink;
 
-/* A record of the word made by a library's own calls, with arguments that make each call work hard: the row and the piece
+/* A record of the word made by a library's own calls, with arguments that make each call work hard: the row and the first piece
  * are those of the longest palindrome. */
 static void make_record(struct sitting *to, const library *by, int word)
 {

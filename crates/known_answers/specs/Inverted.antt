@@ -6,7 +6,7 @@ use Rattle.palindromes.specs.Word.{Word}
 use Rattle.palindromes.specs.Reading.{complement}
 use Rattle.palindromes.specs.End.{atLeft, atRight}
 use Rattle.palindromes.specs.Node.{spelt}
-use Rattle.known_answers.specs.KnownAnswer.{howMany, whichLongest, addition, removal, theLink, theInner, look, refused, number, lengthAt, comesIn, goesOut, row, found, absent, KnownAnswer, from, A, C, G, T}
+use Rattle.known_answers.specs.KnownAnswer.{howMany, whichLongest, addition, removal, theLink, theInner, look, refused, number, lengthAt, comesIn, goesOut, row, found, absent, KnownAnswer, from, A, C, G, T, AGTCT}
 
 abbrev AT : Word
 AT = A ∷ T ∷ []
@@ -19,9 +19,6 @@ GAATT = G ∷ A ∷ A ∷ T ∷ T ∷ []
 
 abbrev GAATTC : Word
 GAATTC = G ∷ A ∷ A ∷ T ∷ T ∷ C ∷ []
-
-abbrev AGTCT : Word
-AGTCT = A ∷ G ∷ T ∷ C ∷ T ∷ []
 
 unfoldable pub inverted : List KnownAnswer
 inverted =

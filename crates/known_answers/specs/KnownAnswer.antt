@@ -2,7 +2,7 @@
 use Prim.Native.Nat.{ℕ, _≤_}
 use mathlib.Core.Path.{_≡_}
 use mathlib.Core.Bool.{true, cond}
-use mathlib.Core.List.{List}
+use mathlib.Core.List.{List, [], _∷_}
 use mathlib.Core.Option.{none}
 use Prim.Native.Nat.{zero, suc}
 use Rattle.palindromes.specs.Word.{Word, member}
@@ -82,11 +82,18 @@ G = 71
 abbrev pub T : ℕ
 T = 84
 
+-- words that more than one table asks about
+abbrev pub ACCACG : Word
+ACCACG = A ∷ C ∷ C ∷ A ∷ C ∷ G ∷ []
+
+abbrev pub AGTCT : Word
+AGTCT = A ∷ G ∷ T ∷ C ∷ T ∷ []
+
 -- the answer is right at every capacity of its line
 abbrev pub Right : KnownAnswer → Type 0
 Right x = (k : ℕ) → x .least ≤ k → k ≤ x .most → answer (x .rule) k (x .letters) (x .query) ≡ x .known
 
 -- every answer of the list is right
 pub data AllRight : List KnownAnswer → Type 0 where
-  none-left : AllRight List.[]
-  one-more : {x : KnownAnswer} {xs : List KnownAnswer} → Right x → AllRight xs → AllRight (List._∷_ x xs)
+  none-left : AllRight []
+  one-more : {x : KnownAnswer} {xs : List KnownAnswer} → Right x → AllRight xs → AllRight (x ∷ xs)

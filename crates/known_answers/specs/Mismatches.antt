@@ -6,16 +6,10 @@ use Rattle.palindromes.specs.Word.{Word}
 use Rattle.palindromes.specs.Palindrome.{plain}
 use Rattle.palindromes.specs.Reading.{complement}
 use Rattle.palindromes.specs.Node.{spelt}
-use Rattle.known_answers.specs.KnownAnswer.{look, refused, found, absent, KnownAnswer, from, A, C, G, T}
+use Rattle.known_answers.specs.KnownAnswer.{look, refused, found, absent, KnownAnswer, from, A, C, G, T, ACCACG, AGTCT}
 
 abbrev CCAC : Word
 CCAC = C ∷ C ∷ A ∷ C ∷ []
-
-abbrev ACCACG : Word
-ACCACG = A ∷ C ∷ C ∷ A ∷ C ∷ G ∷ []
-
-abbrev AGTCT : Word
-AGTCT = A ∷ G ∷ T ∷ C ∷ T ∷ []
 
 unfoldable pub mismatches : List KnownAnswer
 mismatches =

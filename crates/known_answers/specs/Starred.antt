@@ -5,16 +5,13 @@ use Rattle.palindromes.specs.Word.{Word}
 use Rattle.palindromes.specs.Palindrome.{plain}
 use Rattle.palindromes.specs.End.{atLeft, atRight}
 use Rattle.palindromes.specs.Node.{spelt}
-use Rattle.known_answers.specs.KnownAnswer.{howMany, whichLongest, addition, removal, theLink, theInner, look, refused, number, lengthAt, comesIn, goesOut, row, found, absent, KnownAnswer, from, A, C, G}
+use Rattle.known_answers.specs.KnownAnswer.{howMany, whichLongest, addition, removal, theLink, theInner, look, refused, number, lengthAt, comesIn, goesOut, row, found, absent, KnownAnswer, from, A, C, G, ACCACG}
 
 abbrev AAAA : Word
 AAAA = A ∷ A ∷ A ∷ A ∷ []
 
 abbrev ACGA : Word
 ACGA = A ∷ C ∷ G ∷ A ∷ []
-
-abbrev ACCACG : Word
-ACCACG = A ∷ C ∷ C ∷ A ∷ C ∷ G ∷ []
 
 abbrev ACGAAG : Word
 ACGAAG = A ∷ C ∷ G ∷ A ∷ A ∷ G ∷ []

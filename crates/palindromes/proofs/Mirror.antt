@@ -2,11 +2,14 @@
 -- in a word exactly if it stands in the word's mirror, and a change at the left end is, seen in the mirror, the change at the right end. A law about the left end is the law
 -- about the right end read on the mirror. Rests on the cuts of `Words` and on the library's laws of `reverse` and `map`; a partner rule that undoes itself is asked for
 -- only where a mirror is undone.
-use Prim.Native.Nat.{ℕ}
+use Prim.Native.Nat.{ℕ, suc, _-_, _<_}
+use native.Mathlib.Nat.{eq-or-lt-of-le, le-of-suc-le-suc}
+use native.Mathlib.Omega.{arith}
 use mathlib.Core.Path.{_≡_, refl, sym, ap, _∙_, subst₂}
 use mathlib.Core.Logic.{⊎-elim, _↔_}
 use mathlib.Core.List.{[], _∷_, _++_, map, reverse, append-assoc, map-append, reverse-append}
-use lib.ListN.{length, length-reverse, length-map}
+use lib.ListN.{length, getD, length-reverse, length-map, List·getD-append}
+use lib.Seq.{getD-at}
 use Rattle.palindromes.specs.Word.{Word}
 use Rattle.palindromes.specs.Palindrome.{SelfInverse, mirror, Symmetric}
 use Rattle.palindromes.specs.Place.{Suffix, Prefix, Stands}
@@ -37,6 +40,19 @@ module _ (σ : ℕ → ℕ) where
   pub mirror-length : (w : Word) → length (mirror σ w) ≡ length w
   unfolding mirror
   mirror-length w = length-reverse (map σ w) ∙ length-map w σ
+
+  -- a letter of the mirror is the partner of the letter as far from the other end
+  pub mirror-at : (w : Word) (i : ℕ) → i < length w → getD (mirror σ w) i 0 ≡ σ (getD w (length w - 1 - i) 0)
+  mirror-at [] i h = absurd (omega arith)
+  mirror-at (x ∷ w) i h =
+      ⊎-elim
+      (λ same.
+      let first : suc (length w) - 1 - i ≡ 0 = omega arith in
+      cc (first, mirror-cons x w, getD-at (mirror σ w) (σ x) [] 0 i (cc (mirror-length w))))
+      (λ less.
+      let before : suc (length w) - 1 - i ≡ suc (length w - 1 - i) = omega arith in
+      cc (before, mirror-cons x w, List·getD-append (mirror σ w) (σ x ∷ []) 0 i (omega (arith, mirror-length w)), mirror-at w i less))
+      (eq-or-lt-of-le (le-of-suc-le-suc h))
 
   -- ---- what ends a word, what begins it, what stands in it
 

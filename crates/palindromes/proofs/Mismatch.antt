@@ -1,6 +1,6 @@
--- The first mismatch of a word, pair by pair. What `Mismatch` says of the outer half of the pairs, or of all, is what `firstMismatch` computes; and how far in a mismatch can lie: within the outer half, the middle letter of an
--- odd word among it, which agrees where the rule is plain and never in an inverted record. Rests on the letters of the mirror (`Search`), on the test of two words (`Tests`) and on `even-length`.
-use Prim.Native.Nat.{ℕ, zero, suc, _+_, _-_, _/_, _%_, _≤_, _<_}
+-- The first mismatch of a word, pair by pair: what `Mismatch` says of the outer half of the pairs, or of all, is what `firstMismatch` computes. Rests on the letters of the mirror (`mirror-at`) and on the comparison of two words (`Tests`).
+-- A partner rule that undoes itself is asked for only where the outer half decides.
+use Prim.Native.Nat.{ℕ, zero, suc, _+_, _-_, _/_, _≤_, _<_}
 use native.Mathlib.Omega.{arith}
 use native.Mathlib.Decide.{decLt}
 use native.Mathlib.Nat.{eq-or-lt-of-le, le-of-suc-le-suc}
@@ -12,14 +12,11 @@ use lib.Dec.{eqb}
 use lib.ListN.{length, getD}
 use lib.Seq.{ext-getD}
 use borrow.Author.Tests.{eqb-true, eqb-false, eq-eqb, ne-eqb}
-use Rattle.palindromes.specs.Word.{Word, allLetters, mismatchFrom}
-use Rattle.palindromes.specs.Palindrome.{SelfInverse, plain, mirror, Symmetric, firstMismatch}
+use Rattle.palindromes.specs.Word.{Word, mismatchFrom}
+use Rattle.palindromes.specs.Palindrome.{SelfInverse, mirror, Symmetric, firstMismatch}
 use Rattle.palindromes.specs.Mismatch.{Agrees, Mismatch, all-agree, first-at, reportedMismatch}
-use Rattle.palindromes.specs.Reading.{ruleIn}
-use Rattle.palindromes.proofs.Tests.{mismatch-zero, mismatch-none}
-use Rattle.palindromes.proofs.Mirror.{mirror-length}
-use Rattle.palindromes.proofs.Search.{mirror-at, symmetric-by-letters}
-use Rattle.palindromes.proofs.Readings.{even-length}
+use Rattle.palindromes.proofs.Tests.{mismatch-none}
+use Rattle.palindromes.proofs.Mirror.{mirror-length, mirror-at}
 
 -- two words that agree before the place i, and not there
 mismatch-from-at : (k i : ℕ) (u v : Word) → i < length u → i < length v → ((j : ℕ) → j < i → getD u j 0 ≡ getD v j 0) → (getD u i 0 ≡ getD v i 0 → ⊥) → mismatchFrom k u v ≡ k + i
@@ -35,10 +32,28 @@ mismatch-from-at k (suc i) (x ∷ u) (y ∷ v) l m h d =
 module _ (σ : ℕ → ℕ) (w : Word) where
   -- a letter of the word and that of its reversal are the same exactly if the pair agrees
   agrees-mirror : (i : ℕ) → i < length w → Agrees σ w i → getD w i 0 ≡ getD (mirror σ w) i 0
-  agrees-mirror i l h = let e : length w - suc i ≡ length w - 1 - i = omega arith in cc (mirror-at σ w i l)
+  agrees-mirror i l h = h ∙ sym (mirror-at σ w i l)
 
   mirror-agrees : (i : ℕ) → i < length w → getD w i 0 ≡ getD (mirror σ w) i 0 → Agrees σ w i
-  mirror-agrees i l h = let e : length w - suc i ≡ length w - 1 - i = omega arith in cc (mirror-at σ w i l)
+  mirror-agrees i l h = h ∙ mirror-at σ w i l
+
+  -- a word equals its reversal exactly if every pair agrees
+  pub symmetric-agrees : Symmetric σ w → (i : ℕ) → i < length w → Agrees σ w i
+  symmetric-agrees h i l = mirror-agrees i l (ap (λ (u : Word). getD u i 0) (sym h))
+
+  agrees-symmetric : ((i : ℕ) → i < length w → Agrees σ w i) → Symmetric σ w
+  agrees-symmetric h =
+      ext-getD 0 (mirror σ w) w (mirror-length σ w) λ i l. let m : i < length w = omega (arith, mirror-length σ w) in sym (agrees-mirror i m (h i m))
+
+  -- under a rule that undoes itself the pairs of the outer half decide, for each letter of the other half faces one of that
+  half-agrees : SelfInverse σ → ((i : ℕ) → i < length w - length w / 2 → Agrees σ w i) → (i : ℕ) → i < length w → Agrees σ w i
+  half-agrees inv h i l = go (decLt i (length w - length w / 2))
+    where
+      go : Dec (i < length w - length w / 2) → Agrees σ w i
+      go (yes m) = h i m
+      go (no m) =
+          let across : length w - 1 - (length w - 1 - i) ≡ i = omega arith in
+          sym (ap σ (h (length w - 1 - i) (omega arith) ∙ ap (λ (j : ℕ). σ (getD w j 0)) across) ∙ inv (getD w i 0))
 
   first-mismatch-at : (k : ℕ) → k < length w → ((i : ℕ) → i < k → Agrees σ w i) → (Agrees σ w k → ⊥) → firstMismatch σ w ≡ suc k
   unfolding firstMismatch
@@ -52,8 +67,7 @@ module _ (σ : ℕ → ℕ) (w : Word) where
 
   -- all of them do, whatever the rule
   pub mismatch-whole : (n r : ℕ) → n ≡ length w → Mismatch σ w n r → firstMismatch σ w ≡ r
-  mismatch-whole n r e =
-      mismatch-is n r (omega arith) (λ h. ext-getD 0 (mirror σ w) w (mirror-length σ w) (λ i l. let m : i < length w = omega (arith, mirror-length σ w) in sym (agrees-mirror i m (h i (omega arith)))))
+  mismatch-whole n r e = mismatch-is n r (omega arith) (λ h. agrees-symmetric (λ i l. h i (omega arith)))
 
   -- the first of some pairs that disagrees, if there is one
   some-mismatch : (n : ℕ) → (r : ℕ) × Mismatch σ w n r
@@ -72,36 +86,13 @@ module _ (σ : ℕ → ℕ) (w : Word) where
   module _ (inv : SelfInverse σ) where
     -- the outer half does, the middle letter of an odd word among it, where the rule undoes itself
     pub mismatch-half : (n r : ℕ) → n ≡ length w - length w / 2 → Mismatch σ w n r → firstMismatch σ w ≡ r
-    mismatch-half n r e =
-        mismatch-is n r (omega arith) (λ h. symmetric-by-letters σ inv w (λ k l m.
-        let across : length w - 1 - (length w - suc k) ≡ k = omega arith in
-        h (length w - suc k) (omega arith) ∙ ap (λ (i : ℕ). σ (getD w i 0)) across))
+    mismatch-half n r e = mismatch-is n r (omega arith) (λ h. agrees-symmetric (half-agrees inv (λ i l. h i (omega arith))))
 
     -- 02 (x), pair by pair: what the number says
     pub mismatch-pairs : Mismatch σ w (length w - length w / 2) (firstMismatch σ w)
     mismatch-pairs =
         let s = some-mismatch (length w - length w / 2) in
         rw (mismatch-half (length w - length w / 2) (s .0) refl (s .1)) (s .1)
-
--- "the middle letter of an odd piece, facing itself, is the last pair": in a plain record it agrees, so there a mismatch lies before it
-pub plain-pairs : (w : Word) → firstMismatch plain w ≤ length w / 2
-plain-pairs w = go (firstMismatch plain w) (mismatch-pairs plain w (λ x. refl))
-  where
-    go : (r : ℕ) → Mismatch plain w (length w - length w / 2) r → r ≤ length w / 2
-    go r (all-agree f e) = omega arith
-    go r (first-at k l f d e) = within (decLt k (length w / 2))
-      where
-        within : Dec (k < length w / 2) → r ≤ length w / 2
-        within (yes h) = omega arith
-        within (no h) = let m : length w - 1 - k ≡ k = omega arith in absurd (d (rw m refl))
-
--- and in an inverted record it does not, so every odd piece of letters has a mismatch
-pub odd-mismatch : (m : ℕ) → eqb m 1 ≡ true → (w : Word) → allLetters w ≡ true → length w % 2 ≡ 1 → 0 < firstMismatch (ruleIn m) w
-odd-mismatch m e w all odd = go (firstMismatch (ruleIn m) w) refl
-  where
-    go : (r : ℕ) → firstMismatch (ruleIn m) w ≡ r → 0 < r
-    go zero h = absurd (omega (arith, even-length m e w all (mismatch-zero (ruleIn m) w h)))
-    go (suc r) h = omega arith
 
 -- two rules that agree on the letters of a word find the same mismatch
 pub mismatch-rule : (σ τ : ℕ → ℕ) (w : Word) → ((i : ℕ) → i < length w → σ (getD w i 0) ≡ τ (getD w i 0)) → (n r : ℕ) → n ≤ length w → Mismatch σ w n r → Mismatch τ w n r

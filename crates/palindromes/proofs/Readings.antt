@@ -1,6 +1,7 @@
 -- What is asked of the partner rules, of either reading: each undoes itself, the partner of a byte is a byte, and that of a letter a letter. What is so of inverted records alone: no
--- letter is its own partner, so that a repeat has an even length and no single letter is one. And that no word is a repeat in both readings. Rests on the four letters (`Letters`) and on the letters that face each other (`symmetric-at`).
-use Prim.Native.Nat.{ℕ, suc, _+_, _-_, _/_, _%_, _<_}
+-- letter is its own partner, so that the middle letter of an odd piece disagrees with itself, a repeat has an even length and no single letter is one. Where the middle letter agrees, in plain records. And that no word is a repeat in
+-- both readings. Rests on the four letters (`Letters`) and on the pairs of a word (`Mismatch`).
+use Prim.Native.Nat.{ℕ, suc, _+_, _-_, _/_, _%_, _≤_, _<_}
 use native.Mathlib.Decide.{decLt}
 use native.Mathlib.Omega.{arith}
 use mathlib.Core.Path.{_≡_, refl, sym, ap, _∙_}
@@ -10,10 +11,11 @@ use lib.Dec.{eqb}
 use lib.ListN.{length, getD}
 use borrow.Author.Tests.{eqb-true, eqb-false}
 use Rattle.palindromes.specs.Word.{Word, isLetter, allLetters}
-use Rattle.palindromes.specs.Palindrome.{SelfInverse, plain, Symmetric}
+use Rattle.palindromes.specs.Palindrome.{SelfInverse, plain, Symmetric, firstMismatch}
+use Rattle.palindromes.specs.Mismatch.{Agrees, Mismatch, all-agree, first-at}
 use Rattle.palindromes.specs.Reading.{Reading, asPlain, asInverted, complement, readingNumber, ruleIn}
 use Rattle.palindromes.proofs.Letters.{letter-cases, letter-of}
-use Rattle.palindromes.proofs.Search.{symmetric-at}
+use Rattle.palindromes.proofs.Mismatch.{symmetric-agrees, mismatch-pairs}
 
 -- ---- the two rules
 
@@ -87,20 +89,48 @@ no-letter-alone : (m c : ℕ) → eqb m 1 ≡ true → isLetter c ≡ true → r
 unfolding complement
 no-letter-alone m c e h f = letter-cases (λ (x : ℕ). complement x ≡ x → ⊥) (λ g. omega arith) (λ g. omega arith) (λ g. omega arith) (λ g. omega arith) c h (sym (rule-inverted m e c) ∙ f)
 
--- 02 (vi) "its repeats have even length": the letter in the middle of an odd one would be its own partner
+-- the middle letter of an odd piece faces itself: 02 (x) it "is the last pair", and here it disagrees
+pub middle-disagrees : (m : ℕ) → eqb m 1 ≡ true → (w : Word) → allLetters w ≡ true → length w % 2 ≡ 1 → Agrees (ruleIn m) w (length w / 2) → ⊥
+middle-disagrees m e w all odd h =
+    let inside : length w / 2 < length w = omega arith in
+    let faces : length w - 1 - length w / 2 ≡ length w / 2 = omega arith in
+    no-letter-alone m (getD w (length w / 2) 0) e (letter-of w (length w / 2) inside all) (sym (h ∙ ap (λ (i : ℕ). ruleIn m (getD w i 0)) faces))
+
+-- so every odd piece of letters has a mismatch
+pub odd-mismatch : (m : ℕ) → eqb m 1 ≡ true → (w : Word) → allLetters w ≡ true → length w % 2 ≡ 1 → 0 < firstMismatch (ruleIn m) w
+odd-mismatch m e w all odd = go (firstMismatch (ruleIn m) w) (mismatch-pairs (ruleIn m) w (rule-inverse m))
+  where
+    go : (r : ℕ) → Mismatch (ruleIn m) w (length w - length w / 2) r → 0 < r
+    go r (all-agree f h) = absurd (middle-disagrees m e w all odd (f (length w / 2) (omega arith)))
+    go r (first-at k l f d h) = omega arith
+
+-- 02 (vi) "its repeats have even length"
 pub even-length : (m : ℕ) → eqb m 1 ≡ true → (w : Word) → allLetters w ≡ true → Symmetric (ruleIn m) w → length w % 2 ≡ 0
 even-length m e w all h = go (decLt (length w / 2 + length w / 2) (length w))
   where
-    middle : ℕ
-    middle = length w / 2
-
     go : Dec (length w / 2 + length w / 2 < length w) → length w % 2 ≡ 0
     go (no l) = omega arith
-    go (yes l) =
-        let inside : middle < length w = omega arith in
-        let faces : length w - suc middle ≡ middle = omega arith in
-        let alone : getD w middle 0 ≡ ruleIn m (getD w middle 0) = ap (λ (i : ℕ). getD w i 0) (sym faces) ∙ symmetric-at (ruleIn m) w h middle inside in
-        absurd (no-letter-alone m (getD w middle 0) e (letter-of w middle inside all) (sym alone))
+    go (yes l) = absurd (middle-disagrees m e w all (omega arith) (symmetric-agrees (ruleIn m) w h (length w / 2) (omega arith)))
+
+-- ---- plain records
+
+-- there the middle letter agrees with itself
+pub middle-agrees : (w : Word) → length w % 2 ≡ 1 → Agrees plain w (length w / 2)
+middle-agrees w odd =
+    let faces : length w - 1 - length w / 2 ≡ length w / 2 = omega arith in
+    ap (λ (i : ℕ). getD w i 0) (sym faces)
+
+-- so a mismatch lies before it, and is at most half the length
+pub plain-pairs : (w : Word) → firstMismatch plain w ≤ length w / 2
+plain-pairs w = go (firstMismatch plain w) (mismatch-pairs plain w (λ x. refl))
+  where
+    go : (r : ℕ) → Mismatch plain w (length w - length w / 2) r → r ≤ length w / 2
+    go r (all-agree f e) = omega arith
+    go r (first-at k l f d e) = within (decLt k (length w / 2))
+      where
+        within : Dec (k < length w / 2) → r ≤ length w / 2
+        within (yes h) = omega arith
+        within (no h) = let middle : k ≡ length w / 2 = omega arith in absurd (d (rw middle (middle-agrees w (omega arith))))
 
 -- ---- both readings
 
@@ -113,7 +143,9 @@ one-reading m n below below′ differ (c ∷ w) some all h h′ = go (eqb m 1) (
     letter = letter-of (c ∷ w) 0 (omega arith) all
 
     alike : ruleIn m c ≡ ruleIn n c
-    alike = sym (symmetric-at (ruleIn m) (c ∷ w) h 0 (omega arith)) ∙ symmetric-at (ruleIn n) (c ∷ w) h′ 0 (omega arith)
+    alike =
+        let across : suc (length w) - 1 - length w ≡ 0 = omega arith in
+        cc (symmetric-agrees (ruleIn m) (c ∷ w) h (length w) (omega arith), symmetric-agrees (ruleIn n) (c ∷ w) h′ (length w) (omega arith))
 
     go : (s t : Bool) → eqb m 1 ≡ s → eqb n 1 ≡ t → ⊥
     go true true e f = differ (eqb-true m 1 e ∙ sym (eqb-true n 1 f))

@@ -1,19 +1,18 @@
 -- The search for a palindrome along the edges of the eertree, from the centre outwards: it sets out at a root, the imaginary one for an odd number of letters, and takes one edge for each letter
 -- from the middle to the right end. `reached` is the node after some of the letters: it starts at the root, grows by one edge a letter and comes to the word itself; and where an edge
--- is missing on the way the word does not stand in the record. Last, the test that a word equals its reversal, letter by letter over the same half.
--- Rests on `inner-stands` and `inner-symmetric` of `Growth`, on the mirror and on the members of `palindromes`. A partner rule that undoes itself is asked for only in that last test.
+-- is missing on the way the word does not stand in the record.
+-- Rests on `inner-stands` and `inner-symmetric` of `Growth`, on the mirror and on the members of `palindromes`.
 use Prim.Native.Nat.{ℕ, suc, _-_, _/_, _%_, _≤_, _<_}
 use native.Mathlib.Omega.{arith}
-use native.Mathlib.Decide.{decLe, decLt}
 use mathlib.Core.Path.{_≡_, refl, sym, ap, _∙_, subst}
 use mathlib.Core.Bool.{Bool, true, false, cond}
 use mathlib.Core.List.{[], _∷_, _++_, append-assoc, append-nil, cons-ne-nil}
 use lib.Dec.{eqb}
-use lib.ListN.{length, take, drop, getD, length-take, length-drop, take-append-drop, List·getD-append}
-use lib.Seq.{take-length, take-at, drop-at, take-suc, drop-cons, split-at, drop-append-le, slice, slice-empty, getD-at, ext-getD}
+use lib.ListN.{length, take, drop, getD, length-take, length-drop, take-append-drop}
+use lib.Seq.{take-length, take-at, drop-at, take-suc, drop-cons, split-at, drop-append-le, slice, slice-empty}
 use borrow.Author.Tests.{eqb-true, eqb-false}
 use Rattle.palindromes.specs.Word.{Word, member}
-use Rattle.palindromes.specs.Palindrome.{SelfInverse, mirror, Symmetric}
+use Rattle.palindromes.specs.Palindrome.{mirror, Symmetric}
 use Rattle.palindromes.specs.Place.{Stands}
 use Rattle.palindromes.specs.Record.{palindromes}
 use Rattle.palindromes.specs.Node.{Node, imaginary, spelt, spellingOf, around}
@@ -169,37 +168,3 @@ module _ (σ : ℕ → ℕ) where
           let there : Stands next s = grown-stands (spelt next) rest (subst (λ (u : Word). Stands u s) f (p .1)) in
           let same : Symmetric σ next = grown-symmetric (spelt next) rest (subst (Symmetric σ) f (p .0 .symmetric)) in
           false-not-true out (palindromes-is σ next s (record { non-empty = around-not-empty (getD w k 0) (reached σ w k); symmetric = same }) there)
-
-  -- ---- letter by letter
-
-  -- a letter of the mirror is the partner of the letter as far from the other end
-  pub mirror-at : (w : Word) (k : ℕ) → k < length w → getD (mirror σ w) k 0 ≡ σ (getD w (length w - suc k) 0)
-  mirror-at [] k h = absurd (omega arith)
-  mirror-at (x ∷ w) k h = go (decLt k (length w)) (mirror-at w k)
-    where
-      go : Dec (k < length w) → (k < length w → getD (mirror σ w) k 0 ≡ σ (getD w (length w - suc k) 0)) → getD (mirror σ (x ∷ w)) k 0 ≡ σ (getD (x ∷ w) (suc (length w) - suc k) 0)
-      go (yes l) ih =
-          let e : suc (length w) - suc k ≡ suc (length w - suc k) = omega arith in
-          cc (mirror-cons σ x w, List·getD-append (mirror σ w) (σ x ∷ []) 0 k (omega (arith, mirror-length σ w)), ih l)
-      go (no l) ih =
-          let e : suc (length w) - suc k ≡ 0 = omega arith in
-          cc (mirror-cons σ x w, getD-at (mirror σ w) (σ x) [] 0 k (omega (arith, mirror-length σ w)))
-
-  -- in a palindrome the letters as far from the two ends are partners
-  pub symmetric-at : (w : Word) → Symmetric σ w → (k : ℕ) → k < length w → getD w (length w - suc k) 0 ≡ σ (getD w k 0)
-  symmetric-at w h k l =
-      let across : length w - suc (length w - suc k) ≡ k = omega arith in
-      cc (mirror-at w (length w - suc k) (omega arith))
-
-  -- and a word in which they are, from the middle to the right end, equals its reversal
-  pub symmetric-by-letters : SelfInverse σ → (w : Word) → ((k : ℕ) → length w / 2 ≤ k → k < length w → getD w (length w - suc k) 0 ≡ σ (getD w k 0)) → Symmetric σ w
-  symmetric-by-letters inv w h = ext-getD 0 (mirror σ w) w (mirror-length σ w) λ i l. each i (omega (arith, mirror-length σ w))
-    where
-      each : (i : ℕ) → i < length w → getD (mirror σ w) i 0 ≡ getD w i 0
-      each i l = go (decLe (length w / 2) i)
-        where
-          go : Dec (length w / 2 ≤ i) → getD (mirror σ w) i 0 ≡ getD w i 0
-          go (yes r) = cc (mirror-at w i l, h i r l, inv (getD w i 0))
-          go (no r) =
-              let across : length w - suc (length w - suc i) ≡ i = omega arith in
-              cc (mirror-at w i l, h (length w - suc i) (omega arith) (omega arith))

@@ -1,3 +1,3 @@
--- the laws that the loops go by: what one turn takes off a definition
+-- what one turn of a loop takes off a definition, for the reference functions that have one; and palindromes by their length
 pub mod Turns
 pub mod Palindromes

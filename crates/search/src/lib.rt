@@ -68,7 +68,8 @@ pub fn find(b: &[u8], piece: &[u8]) -> Found
     requires { ⌜ (0 < length (now piece)) × (allLetters (now piece) ≡ true) ⌝ }
     ensures { λ r. ⌜ r ≡ foundIn (now (b .entry)) (now (piece .entry)) ⌝ }
 {
-    let partners = table(header::reading(b));
+    let reading = header::reading(b);
+    let partners = table(reading);
     let pair = first_mismatch(&partners, piece, piece.len() - piece.len() / 2);
     if pair != 0 {
         return Found::Absent(reported(pair));

@@ -1,19 +1,17 @@
 -- The letters that stand at a place of the bytes, seen from an end: the letter there, the letters left without it, the bytes after a letter has joined or left, and
 -- the letters as a reader at the left end meets them. Rests on the laws of a written part and on the laws of the two ends of a word.
 use Prim.Native.Nat.{ℕ, suc, _+_, _-_, _≤_, _<_}
-use native.Mathlib.Nat.{eq-or-lt-of-le, le-of-suc-le-suc}
 use native.Mathlib.Numerals.{add-one}
 use native.Mathlib.Omega.{arith}
 use mathlib.Core.Path.{_≡_, ap, _∙_}
-use mathlib.Core.Logic.{⊎-elim}
 use mathlib.Core.List.{[], _∷_, _++_}
-use lib.ListN.{length, take, drop, getD, set, length-drop, List·getD-append}
-use lib.Seq.{sets, getD-take, getD-drop, getD-at, take-suc, drop-cons, length-take-le}
+use lib.ListN.{length, take, drop, getD, set, length-drop}
+use lib.Seq.{sets, getD-take, getD-drop, take-suc, drop-cons, length-take-le}
 use Rattle.palindromes.specs.Word.{Word}
 use Rattle.palindromes.specs.Palindrome.{mirror}
 use Rattle.palindromes.specs.End.{End, atLeft, atRight, added, removed, letterAt}
 use Rattle.palindromes.proofs.Words.{removed-added, letter-added}
-use Rattle.palindromes.proofs.Mirror.{mirror-cons, mirror-length}
+use Rattle.palindromes.proofs.Mirror.{mirror-at}
 use Rattle.store.proofs.Parts.{sets-snoc, sets-cons}
 
 -- where the letter at an end stands, of letters that begin at `base`, and where the m others begin
@@ -59,20 +57,7 @@ module _ (l : Word) (base n : ℕ) (fits : base + n ≤ length l) where
   pub part-rest : (e : End) → 0 < n → removed e (take n (drop base l)) ≡ take (n - 1) (drop (restPlace e base) l)
   part-rest e h = ap (removed e) (part-by-end e h) ∙ removed-added e (getD l (letterPlace e base (n - 1)) 0) (take (n - 1) (drop (restPlace e base) l))
 
--- a letter of the mirror is the partner of the letter as far from the other end
-pub mirror-at : (σ : ℕ → ℕ) (w : Word) (i : ℕ) → i < length w → getD (mirror σ w) i 0 ≡ σ (getD w (length w - 1 - i) 0)
-mirror-at σ [] i h = absurd (omega arith)
-mirror-at σ (x ∷ w) i h =
-    ⊎-elim
-    (λ same.
-    let first : suc (length w) - 1 - i ≡ 0 = omega arith in
-    cc (first, mirror-cons σ x w, getD-at (mirror σ w) (σ x) [] 0 i (cc (mirror-length σ w))))
-    (λ less.
-    let before : suc (length w) - 1 - i ≡ suc (length w - 1 - i) = omega arith in
-    cc (before, mirror-cons σ x w, List·getD-append (mirror σ w) (σ x ∷ []) 0 i (omega (arith, mirror-length σ w)), mirror-at σ w i less))
-    (eq-or-lt-of-le (le-of-suc-le-suc h))
-
--- so a reader at the left end meets the partners of the letters, the last one first
+-- a reader at the left end meets the partners of the letters, the last one first
 pub part-seen : (l : Word) (base n : ℕ) → base + n ≤ length l → (σ : ℕ → ℕ) (i : ℕ) → i < n
     → getD (mirror σ (take n (drop base l))) i 0 ≡ σ (getD l (base + (n - 1 - i)) 0)
 part-seen l base n fits σ i h =
