@@ -15,7 +15,7 @@ use borrow.Author.Tests.{eqb-true, eqb-false, eq-eqb, ne-eqb}
 use Rattle.palindromes.specs.Word.{Word, mismatchFrom}
 use Rattle.palindromes.specs.Palindrome.{SelfInverse, mirror, Symmetric, firstMismatch}
 use Rattle.palindromes.specs.Mismatch.{Agrees, Mismatch, all-agree, first-at, reportedMismatch}
-use Rattle.palindromes.proofs.Tests.{mismatch-none}
+use Rattle.palindromes.proofs.Tests.{mismatch-zero, mismatch-none}
 use Rattle.palindromes.proofs.Mirror.{mirror-length, mirror-at}
 
 -- two words that agree before the place i, and not there
@@ -101,6 +101,11 @@ mismatch-rule σ τ w h n r l (first-at k m f d e) =
     first-at k m (λ i o. f i o ∙ h (length w - 1 - i) (omega arith)) (λ a. d (a ∙ sym (h (length w - 1 - k) (omega arith)))) e
 
 -- ---- what is handed on
+
+-- it too is 0 exactly if the word equals its reversal: so an absent piece with 0 reads alike
+pub unreported-symmetric : (σ : ℕ → ℕ) (w : Word) → reportedMismatch σ w ≡ 0 → Symmetric σ w
+unfolding reportedMismatch
+unreported-symmetric σ w h = mismatch-zero σ w (omega arith)
 
 pub mismatch-unreported : (σ : ℕ → ℕ) (w : Word) → Symmetric σ w → reportedMismatch σ w ≡ 0
 unfolding reportedMismatch
