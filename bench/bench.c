@@ -355,6 +355,24 @@ static void growth(FILE *out)
     draw(out, panels, 2);
 }
 
+/* The list against n. To find out its length takes a reading of the letters for each 344 repeats, so that the cost for a letter
+ * rises at some sizes, but no further than three readings come to. */
+static void list_growth(void)
+{
+    double us[WORDS][POINTS];
+    for (int w = 0; w < WORDS; w++)
+        measure_growth(CALL_LIST, w, us[w]);
+    puts("\nThe list, in nanoseconds for each letter");
+    heading("letters", PLAIN);
+    for (int i = 0; i < POINTS; i++) {
+        int letters = (i + 1) * POINT_STEP;
+        printf("  %4d                    ", letters);
+        for (int w = 0; w < WORDS; w++)
+            printf("%12.1f ", us[w][i] * 1e3 / letters);
+        puts("");
+    }
+}
+
 int main(int count, char **arguments)
 {
     FILE *out = count == 2 ? fopen(arguments[1], "w") : NULL;
@@ -381,6 +399,7 @@ int main(int count, char **arguments)
     above += without_a_test();
     above += long_pieces();
     growth(out);
+    list_growth();
     fclose(out);
     printf("\n%d ratios above their limit at 1,000 letters\n", above);
     return above != 0;

@@ -44,7 +44,7 @@ static void make_record(struct sitting *to, const library *by, int word)
     uint8_t letters[LETTERS + 1];
     make_word(word, letters, LETTERS + 1);
     to->length = MIRROR_STORE_SIZE(CAPACITY);
-    to->scratch_length = sizeof to->scratch;
+    to->scratch_length = sizeof to->scratch; /* enough for the other library too */
     to->out_length = sizeof to->out;
     to->capacity = CAPACITY;
     to->letter = letters[LETTERS];

@@ -125,6 +125,7 @@ void seat(struct sitting *s, int word, int reading, size_t n, size_t capacity)
     uint8_t letters[CAPACITY_MOST + 1];
     make_word(word, letters, n + 1);
     memset(s, 0, sizeof *s);
+    memset(s->scratch, SCRATCH_PAINT, sizeof s->scratch);
     s->length = 48 * capacity + 256;
     s->scratch_length = sizeof s->scratch;
     s->out_length = sizeof s->out;

@@ -10,7 +10,9 @@
 #include "../tests/library.h"
 
 enum { CAPACITY_MOST = 1024, STORE_MOST = 48 * CAPACITY_MOST + 256, OUT_MOST = 45 * CAPACITY_MOST };
-enum { SCRATCH_MOST = 4 * CAPACITY_MOST, PIECE_MOST = CAPACITY_MOST + 2 };
+/* The list needs a bit of scratch for each letter, and is lent four bytes: an earlier library needs as many, and is run on the same
+ * sittings beside today's (beside.c). Today's leaves what it does not need, and takes no longer. */
+enum { SCRATCH_MOST = 4 * CAPACITY_MOST, SCRATCH_PAINT = 0xa5, PIECE_MOST = CAPACITY_MOST + 2 };
 
 /* The calls in the order of their table, and last the spelling call once more beside a twin that loops instead of
  * recursing. Both openings stand first, so that CALL_OPEN + reading gives that reading; CALL_TURN_PLAIN + reading turns
@@ -96,7 +98,8 @@ void make_pieces(struct sitting *s, int reading, size_t n);
 unsigned broken_pair(int find, size_t n);
 
 /* A record of n letters of a word in a reading, 0 or 1, at the given capacity, with arguments that make each call work
- * hard: the row and the first piece are those of the longest palindrome. */
+ * hard: the row and the first piece are those of the longest palindrome. The scratch is painted, so that it shows what a call
+ * clears there. */
 void seat(struct sitting *s, int word, int reading, size_t n, size_t capacity);
 
 #endif

@@ -26,6 +26,9 @@ static const uint8_t partner_tables[2][256] = {
     [INVERTED] = {['A'] = 'T', ['C'] = 'G', ['G'] = 'C', ['T'] = 'A'},
 };
 
+/* The same for the four letters alone, in the order of a row's edges. */
+static const uint8_t letter_partners[2][4] = {[PLAIN] = {'A', 'C', 'G', 'T'}, [INVERTED] = {'T', 'G', 'C', 'A'}};
+
 static inline unsigned get(const uint8_t *b, size_t row, size_t cell)
 {
     uint16_t v;

@@ -29,11 +29,10 @@ static inline struct view view_of(const uint8_t *b, enum side side)
 
 static inline uint8_t raw(struct view v, size_t i) { return v.first[v.step * (ptrdiff_t)i]; }
 
-/* The first row from `row` on along the links whose palindrome, ending the first k letters, has d's partner just before
- * it, and the imaginary one where none has; and how many rows come before it. */
-static inline unsigned walk_counted(const uint8_t *b, struct view v, size_t k, unsigned row, uint8_t d, unsigned *passed)
+/* The first row from `row` on along the links whose palindrome, ending the first k letters, has the letter that is sought just
+ * before it, and the imaginary one where none has; and how many rows come before it. */
+static inline unsigned walk_to(const uint8_t *b, struct view v, size_t k, unsigned row, uint8_t sought, unsigned *passed)
 {
-    uint8_t sought = v.looked_for[d];
     *passed = 0;
     while (row != IMAGINARY) {
         size_t stored = get(b, row, LENGTH);
@@ -43,6 +42,12 @@ static inline unsigned walk_counted(const uint8_t *b, struct view v, size_t k, u
         ++*passed;
     }
     return row;
+}
+
+/* The same where d's partner is sought. */
+static inline unsigned walk_counted(const uint8_t *b, struct view v, size_t k, unsigned row, uint8_t d, unsigned *passed)
+{
+    return walk_to(b, v, k, row, v.looked_for[d], passed);
 }
 
 /* The same where nobody asks how many. */
@@ -66,6 +71,14 @@ static inline unsigned made(const uint8_t *b, struct view v, unsigned u, uint8_t
 static inline unsigned step(const uint8_t *b, struct view v, size_t k, unsigned row, uint8_t d)
 {
     return made(b, v, walk(b, v, k, row, d), d);
+}
+
+/* The same for letter k of a good store that is read again, from left to right: the partners of the four letters are enough. */
+static inline unsigned step_again(const uint8_t *b, struct view v, const uint8_t partners[4], size_t k, unsigned row)
+{
+    size_t place = edge_place[v.first[k]];
+    unsigned passed, u = walk_to(b, v, k, row, partners[place], &passed);
+    return serves(v, u) ? get(b, u, EDGE + place) : (unsigned)EMPTY;
 }
 
 #endif

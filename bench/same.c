@@ -1,9 +1,10 @@
 /* Whether the twin does the library's work: a benchmark of two programs that answer differently is worthless.
  *
  * Every call on every word in either reading, pieces to find that are repeats, nearly are, read alike and are absent or are
- * longer than the record, long random sittings from both ends, some with turns, full records of every word taken away letter by
- * letter, and damaged stores, in some of which a carried number alone is untrue, go through both, and every answer and every lent
- * byte must agree. Prints how many calls were compared, and ends with 1 at the first difference. */
+ * longer than the record, lists with scratch about the need, long random sittings from both ends, some with turns, full records
+ * of every word taken away letter by letter, and damaged stores, in some of which a carried number alone is untrue, go through
+ * both, and every answer and every lent byte must agree. Prints how many calls were compared, and ends with 1 at the first
+ * difference. */
 #include <stdio.h>
 #include <stdlib.h>
 #include <string.h>
@@ -51,6 +52,14 @@ static void compare_ends(const char *where)
     compare(&calls[CALL_LONGEST_RIGHT], where);
 }
 
+/* The list, with scratch that is not clear. */
+static void compare_list(const char *where)
+{
+    memset(here.scratch, SCRATCH_PAINT, sizeof here.scratch);
+    memset(there.scratch, SCRATCH_PAINT, sizeof there.scratch);
+    compare(&calls[CALL_LIST], where);
+}
+
 /* On a store that may be damaged: questions, which show whether it is refused, then removals and the turns. */
 static void compare_damaged(const char *where)
 {
@@ -76,6 +85,34 @@ static void tight(const struct sitting *s)
             compare(&calls[i], "a tight buffer");
         }
     }
+}
+
+/* Listing with a byte of scratch less than it needs, where it needs one, with just enough and with one more. */
+static void scratches(const struct sitting *s)
+{
+    size_t need = MIRROR_LIST_SCRATCH(size_of(s->store));
+    for (size_t lent = need == 0 ? 0 : need - 1; lent <= need + 1; lent++) {
+        here = there = *s;
+        here.scratch_length = there.scratch_length = lent;
+        if ((compare(&calls[CALL_LIST], "scratch about the need") & 0xff) == (lent < need ? 9 : 0))
+            continue;
+        printf("bench/same: list of %u letters with %zu bytes of scratch\n", size_of(s->store), lent);
+        exit(1);
+    }
+}
+
+/* Lists of few letters, and of as many that the ranks fill the windows by which their length is found out, and a little more or
+ * less. */
+static void lists(int word, enum reading reading)
+{
+    static const size_t from[] = {0, 340, 684, 1012}, to[] = {40, 348, 692, CAPACITY_MOST};
+    static struct sitting s;
+    for (size_t i = 0; i < sizeof from / sizeof *from; i++)
+        for (size_t n = from[i]; n <= to[i]; n++) {
+            seat(&s, word, reading, n, n == 0 ? 1 : n);
+            scratches(&s);
+            tight(&s);
+        }
 }
 
 /* Numbers of all sizes in the reading cell, the right one and the other reading's among them; in an empty record both
@@ -269,13 +306,16 @@ static void sitting(uint32_t seed, enum reading reading, size_t capacity, const 
     }
 }
 
-/* A full record of a word taken away at either end by chance, with both ends asked at every letter. */
+/* A full record of a word taken away at either end by chance, with both ends asked at every letter, and a list at every eighth:
+ * what is removed leaves ranks to other rows, so that these come in no order. */
 static void taken_away(uint32_t seed, int word, enum reading reading)
 {
     seat(&here, word, reading, CAPACITY_MOST, CAPACITY_MOST);
     there = here;
     while (size_of(here.store) > 0) {
         compare_ends(word_names[word]);
+        if (size_of(here.store) % 8 == 0)
+            compare_list(word_names[word]);
         compare(&calls[CALL_REMOVE_LEFT + (int)(next_random(&seed) >> 31)], word_names[word]);
     }
 }
@@ -362,8 +402,10 @@ int main(void)
     for (int reading = PLAIN; reading <= INVERTED; reading++) {
         on_words(reading);
         all_finds(reading);
-        for (int word = 0; word < ALL_WORDS; word++)
+        for (int word = 0; word < ALL_WORDS; word++) {
+            lists(word, reading);
             taken_away((uint32_t)word + 1, word, reading);
+        }
         sitting(7, reading, 40, reading == PLAIN ? "AC" : "AT", false);
         sitting(8, reading, 300, "ACGT", false);
         sitting(9, reading, 9, reading == PLAIN ? "ACG" : "ATC", false);

@@ -1,7 +1,8 @@
 /* The stack that each call takes. A call runs on a stack of its own, painted beforehand, and the deepest byte that it
  * changed is looked up afterwards; a call of an empty function is taken off. The records are full ones of 1,024
  * letters in either reading, a letter less for additions, where spelling and finding have the longest palindrome there is,
- * the list the most lines and a turn the most letters to set aside. Ends with 1 if a call takes more than 64 KiB. */
+ * the list the most lines and a turn the most letters to set aside. What the list takes beyond length, which is the test and one
+ * read, is told too. Ends with 1 if a call takes more than 64 KiB. */
 #include <stdio.h>
 #include <string.h>
 #include <ucontext.h>
@@ -76,14 +77,16 @@ static size_t most_of(int call, int *word)
 int main(void)
 {
     int bad = 0;
+    size_t of_call[CALLS];
     puts("\nStack of each call, bytes, and the word that takes most");
     for (int call = 0; call < CALLS; call++) {
         int word = 0;
-        size_t most = most_of(call, &word);
+        size_t most = of_call[call] = most_of(call, &word);
         bad += most == 0 || most > LIMIT;
         printf("  %-24s%8zu  %s%s%s\n", calls[call].name, most, word_names[word], word_reading(word) ? ", inverted" : "",
                most == 0 ? "  refused!" : most > LIMIT ? "  above 64 KiB!" : "");
     }
+    printf("  %-24s%+8td\n", "list, over length", (ptrdiff_t)of_call[CALL_LIST] - (ptrdiff_t)of_call[CALL_LENGTH]);
     size_t empty = depth_of(nothing), fasta = depth_of(read_fasta) - empty;
     printf("  %-24s%8zu%s\n", "fasta", fasta, (answer & 0xff) != 0 ? "  refused!" : "");
     return bad != 0 || (answer & 0xff) != 0 || fasta > LIMIT;

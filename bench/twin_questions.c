@@ -34,8 +34,9 @@ uint64_t twin_longest(const uint8_t *store, size_t length)
     if (n == 0)
         return 6;
     struct view v = view_of(store, RIGHT);
+    const uint8_t *partners = letter_partners[reading_of(store)];
     for (unsigned k = 0; k < n; k++) {
-        row = step(store, v, k, row, v.first[k]);
+        row = step_again(store, v, partners, k, row);
         unsigned here = get(store, row, LENGTH) - 1;
         if (here > most) {
             most = here;

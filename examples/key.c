@@ -159,11 +159,13 @@ static void say_find(const struct line *l, uint64_t answer)
     if (pair) printf(", pair %u%s", pair, pair < 65535 ? " breaks" : " or later breaks");
 }
 
+/* It is lent just the scratch that the letters now in the record need. */
 static uint64_t make_list(const struct line *l)
 {
     static uint8_t scratch[MIRROR_LIST_SCRATCH(MOST)];
     const uint8_t *name = (const uint8_t *)l->words[1];
-    uint64_t answer = mirror_list(store, sizeof store, name, strlen(l->words[1]), scratch, sizeof scratch, text, sizeof text);
+    size_t need = MIRROR_LIST_SCRATCH(mirror_first(mirror_length(store, sizeof store)));
+    uint64_t answer = mirror_list(store, sizeof store, name, strlen(l->words[1]), scratch, need, text, sizeof text);
     written = mirror_first(answer);
     return answer;
 }

@@ -63,18 +63,19 @@ static void every_call(void)
 {
     static const unsigned char piece[] = "ATAT", bad_piece[] = "AN", name[] = "rec_1", bad_name[] = "rec-1";
     unsigned row = random_below((unsigned)shows.capacity + 3), letter = (unsigned)"ACGT"[random_below(4)];
-    size_t out = 64 * 1024 - random_below(2), scratch = 4 * shows.size + random_below(5);
+    size_t out = 64 * 1024 - random_below(2), scratch = layout_scratch(shows.size);
     for (call_kind kind = ADD_LEFT; kind < CALL_KINDS; kind++) {
         call c = {kind, kind == LETTER ? random_below((unsigned)shows.size + 1) : kind == ROW || kind == SPELL ? row : letter, NULL, 0, 0, 0};
         if (kind == FIND) c.text = piece, c.text_length = 1 + random_below(4);
         if (kind == SPELL) c.out_length = shows.size + random_below(3);
-        if (kind == LIST) c.text = name, c.text_length = 5, c.scratch_length = scratch, c.out_length = out;
+        if (kind == LIST) c.text = name, c.text_length = 5, c.scratch_length = scratch + random_below(3), c.out_length = out;
         one_call(&c);
         if (kind >= REMOVE_LEFT && kind < LETTER) continue; /* no argument: it would be the same call again */
         c.number = kind <= ADD_RIGHT ? letter + 256 : 65536 + row;
         if (kind == FIND) c.text = bad_piece, c.text_length = 2 * random_below(2);
         if (kind == SPELL) c.number = row, c.out_length = 0;
-        if (kind == LIST) c.text = random_below(2) ? name : bad_name, c.scratch_length = 0, c.out_length = random_below(20);
+        if (kind == LIST) c.text = random_below(4) ? name : bad_name, c.scratch_length = scratch - (scratch > 0);
+        if (kind == LIST) c.out_length = random_below(2) ? MIRROR_LIST_SIZE(shows.size) : random_below(20);
         one_call(&c);
     }
 }

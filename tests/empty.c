@@ -54,7 +54,7 @@ static void no_buffer(uint8_t *p)
 /* an inverted record of a letter has no repeat: it is listed with scratch and no output */
 static void no_repeat(uint8_t *p)
 {
-    uint8_t scratch[4];
+    uint8_t scratch[1];
     mirror_open_inverted(store, sizeof store, 4);
     must("an empty list", mirror_list(store, sizeof store, (const uint8_t *)"e1", 2, p, 0, p, 0), 0);
     mirror_add_right(store, sizeof store, 'A');

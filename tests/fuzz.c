@@ -56,7 +56,7 @@ static void ask(void)
         c.text_length = next() % TEXT;
         for (size_t i = 0; i < c.text_length; i++) text[i] = (unsigned char)next();
     }
-    if (c.kind == LIST) c.scratch_length = room(), c.out_length = room();
+    if (c.kind == LIST) c.scratch_length = next() % 6, c.out_length = room(); /* up to 24 letters: 3 bytes are enough */
     oracle(store, length, &c);
 }
 

@@ -2,8 +2,8 @@
  * here only; the starred ones are proved (crates/known_answers) and run here too, at several capacities and built from either end.
  * A key is compared as it stands in the table, and no other program is asked. Beside the table: small letters are refused,
  * the keys of inverted records that 02 (vi) and source 004 have, records that are turned, 02 (vii), how many repeats of each
- * length a store carries, 02 (ii), what additions report of their search, 02 (xiii), and where a piece breaks, 02 (x). Keys that
- * ask for no repeat are run with either opening. */
+ * length a store carries, 02 (ii), what additions report of their search, 02 (xiii), where a piece breaks, 02 (x), and how much
+ * scratch the list takes, 02 (ix). Keys that ask for no repeat are run with either opening. */
 #include "mirror.h"
 #include <stdio.h>
 #include <stdlib.h>
@@ -560,6 +560,31 @@ static void breaks_in_the_middle(void)
     breaks(letters, 512);
 }
 
+/* ---- the list's scratch, 02 (ix) */
+
+/* a record of n times A, which has n repeats or, if it is inverted, none: a byte too few, and just enough */
+static void scratch_of(opening *open, size_t n, size_t bytes)
+{
+    static uint8_t scratch[128], out[MIRROR_LIST_SIZE(1024)];
+    char letters[1025];
+    memset(letters, 'A', n);
+    letters[n] = 0;
+    record(open, letters, n ? n : 1, 0);
+    memset(scratch, '?', sizeof scratch);
+    if (bytes > 0) key("a byte too few", 9, mirror_list(store, length, (const uint8_t *)"e1", 2, scratch, bytes - 1, out, sizeof out));
+    for (size_t i = 0; i < sizeof scratch; i++) key("a scratch byte after a refusal", '?', scratch[i]);
+    key("just enough", 0, mirror_refusal(mirror_list(store, length, (const uint8_t *)"e1", 2, scratch, bytes, out, sizeof out)));
+    for (size_t i = 0; i < sizeof scratch; i++) key("a scratch byte", i < bytes ? 0 : '?', scratch[i]);
+    key("the header says as much", bytes, MIRROR_LIST_SCRATCH(n));
+}
+
+/* one bit for each letter, rounded up to whole bytes: nine letters take two */
+static void scratch_of_lists(opening *open)
+{
+    static const struct { size_t letters, bytes; } needs[] = {{0, 0}, {1, 1}, {7, 1}, {8, 1}, {9, 2}, {16, 2}, {17, 3}, {1015, 127}, {1016, 127}, {1017, 128}, {1024, 128}};
+    for (size_t i = 0; i < sizeof needs / sizeof needs[0]; i++) scratch_of(open, needs[i].letters, needs[i].bytes);
+}
+
 /* the keys that ask for no repeat */
 static void either_reading(opening *open)
 {
@@ -580,6 +605,7 @@ int main(void)
     for (size_t i = 0; i < sizeof openings / sizeof openings[0]; i++) {
         either_reading(openings[i]);
         empty_turned(i);
+        scratch_of_lists(openings[i]);
     }
     for (size_t k = 0; k < sizeof capacities / sizeof capacities[0]; k++)
         for (int from_left = 0; from_left < 2; from_left++) {

@@ -1,4 +1,5 @@
-/* The store's bytes by docs/LAYOUT.md, for the tests that look into a store: nothing here comes from the library. */
+/* The store's bytes by docs/LAYOUT.md, for the tests that look into a store, and the list's scratch by docs/HOST.md: nothing
+ * here comes from the library or its header. */
 #ifndef LAYOUT_H
 #define LAYOUT_H
 #include <stddef.h>
@@ -38,5 +39,11 @@ static inline size_t layout_used(size_t capacity)
 static inline size_t layout_size(size_t capacity)
 {
     return 48 * capacity + 256;
+}
+
+/* the scratch of a list: a bit for each letter, and what is left over fills a byte of its own */
+static inline size_t layout_scratch(size_t letters)
+{
+    return letters / 8 + (letters % 8 > 0);
 }
 #endif

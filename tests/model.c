@@ -184,25 +184,26 @@ static void ask_pieces(void)
 /* the lent buffers around refused lists and accepted ones, with no byte to spare and with some */
 static void listed(const char *text, size_t size, const uint8_t *name, size_t name_length)
 {
-    uint8_t *out = guard_room(OUT_SLOT, size + 2), *scratch = guard_room(SCRATCH_SLOT, 4 * length + 2);
+    size_t need = layout_scratch(length);
+    uint8_t *out = guard_room(OUT_SLOT, size + 2), *scratch = guard_room(SCRATCH_SLOT, need + 2);
     memset(out, 5, size + 2);
-    memset(scratch, 6, 4 * length + 2);
-    if (size > 0) same("list, output short", 9, mirror_list(store, store_length, name, name_length, scratch, 4 * length, out, size - 1));
-    if (length > 0) same("list, scratch short", 9, mirror_list(store, store_length, name, name_length, scratch, 4 * length - 1, out, size));
-    same("list, no identifier", 10, mirror_list(store, store_length, name, 0, scratch, 4 * length, out, size));
-    same("list, 33 bytes", 10, mirror_list(store, store_length, (const uint8_t *)"abcdefghijklmnopqrstuvwxyz_012345", 33, scratch, 4 * length, out, size));
-    same("list, a dash", 10, mirror_list(store, store_length, (const uint8_t *)"a-b", 3, scratch, 4 * length, out, size));
+    memset(scratch, 6, need + 2);
+    if (size > 0) same("list, output short", 9, mirror_list(store, store_length, name, name_length, scratch, need, out, size - 1));
+    if (length > 0) same("list, scratch short", 9, mirror_list(store, store_length, name, name_length, scratch, need - 1, out, size));
+    same("list, no identifier", 10, mirror_list(store, store_length, name, 0, scratch, need, out, size));
+    same("list, 33 bytes", 10, mirror_list(store, store_length, (const uint8_t *)"abcdefghijklmnopqrstuvwxyz_012345", 33, scratch, need, out, size));
+    same("list, a dash", 10, mirror_list(store, store_length, (const uint8_t *)"a-b", 3, scratch, need, out, size));
     for (size_t i = 0; i < size + 2; i++) same("list refused: output", 5, out[i]);
-    for (size_t i = 0; i < 4 * length + 2; i++) same("list refused: scratch", 6, scratch[i]);
+    for (size_t i = 0; i < need + 2; i++) same("list refused: scratch", 6, scratch[i]);
     for (size_t spare = 0; spare <= 2; spare += 2) {
-        same("list", packed(0, 0, size, 0), mirror_list(store, store_length, name, name_length, scratch, 4 * length + spare, out, size + spare));
+        same("list", packed(0, 0, size, 0), mirror_list(store, store_length, name, name_length, scratch, need + spare, out, size + spare));
         model_facts++;
         if (memcmp(out, text, size) != 0) fail("listed bytes", 0, 0);
         for (size_t i = 0; i < 2; i++) same("list: output beyond", 5, out[size + i]);
-        for (size_t i = 0; i < 4 * length; i++) same("list: scratch", 0, scratch[i]);
-        for (size_t i = 0; i < 2; i++) same("list: scratch beyond", 6, scratch[4 * length + i]);
+        for (size_t i = 0; i < need; i++) same("list: scratch", 0, scratch[i]);
+        for (size_t i = 0; i < 2; i++) same("list: scratch beyond", 6, scratch[need + i]);
         memset(out, 5, size);
-        memset(scratch, 6, 4 * length);
+        memset(scratch, 6, need);
     }
 }
 

@@ -118,7 +118,7 @@ static uint64_t list_answer(const call *c)
     size_t n = brute_list(was.rule, was.letters, was.size, list), size = 0;
     for (size_t i = 0; i < n; i++)
         size += (size_t)sprintf(wanted_out + size, "%.*s\t%zu\t%zu\n", (int)c->text_length, (const char *)c->text, list[i].start, list[i].end);
-    if (c->out_length < size || c->scratch_length < 4 * was.size) return 9;
+    if (c->out_length < size || c->scratch_length < layout_scratch(was.size)) return 9;
     return packed(0, 0, size, 0);
 }
 
@@ -145,7 +145,7 @@ static void check_buffers(const call *c, size_t length, uint64_t answer)
 {
     int done = (answer & 0xff) == 0;
     size_t written = done && (c->kind == LIST || c->kind == SPELL) ? (answer >> 32 & 0xffff) : 0;
-    size_t cleared = done && c->kind == LIST ? 4 * was.size : 0;
+    size_t cleared = done && c->kind == LIST ? layout_scratch(was.size) : 0;
     if (c->text_length && memcmp(lent.text, c->text, c->text_length) != 0) fail(c, "the piece or identifier changed", 0, 1, length);
     for (size_t i = 0; i < c->out_length; i++) {
         uint8_t wanted = i < written ? (uint8_t)wanted_out[i] : 0x5a;

@@ -1,14 +1,15 @@
 /* Two versions of the library side by side: each call goes to both with the same arguments and equal bytes lent, and the
  * answers and every lent byte afterwards must be equal. Long sittings at both ends with turns and every question, structured
  * words up to full length with both ends asked at every letter, stores damaged in every way, FASTA texts and lists; nothing is
- * judged here but that both do the same. tests/versions builds the two.
+ * judged here but that both do the same, and that each leaves its scratch as a list must. tests/versions builds the two.
  *
  *     versions ONE.so OTHER.so SEED CALLS [LEFT OUT..]
  *
  * CALL leaves a call out, CALL.flag, .row, .first or .second that field of its answer; `store` leaves out the stores'
  * bytes, for versions that lay a store out differently: then no store is damaged either; `small` gives the second version
  * capitals where a later line of a FASTA text has small letters, which the first versions refused. Without open_inverted,
- * named or not in both, every record is plain, and none is turned to the inverted reading. */
+ * named or not in both, every record is plain, and none is turned to the inverted reading. A list's scratch was four bytes for
+ * each letter before it was a bit: each version is tried first, and is lent its own need, or as many bytes more or fewer. */
 #include "calls.h"
 #include "damages.h"
 #include "fasta_texts.h"
@@ -20,6 +21,7 @@
 
 enum { MOST = 1024, PIECE = MOST + 8, FASTA_MOST = 8192, FASTA = LIBRARY_CALLS - 1 };
 enum { TEXT_SLOT, OUT_SLOT, SCRATCH_SLOT = OUT_SLOT + 2, STORE_SLOT = SCRATCH_SLOT + 2 };
+enum { OUT_FILLING = 0x5a, SCRATCH_FILLING = 0xa5 };
 enum { EXTRA = 60 }; /* fewer bytes than this are lent beyond what a store needs; 48 would do for one letter more */
 enum { SMALL = 24 }; /* up to so many letters the judge, which damage asks, is fast */
 enum { ALL_A, PAIRS, FIBONACCI, THUE_MORSE, WORDS };
@@ -30,7 +32,7 @@ static size_t whole, length, capacity, size; /* damage may cut the length that i
 static unsigned char letters[MOST + 1];
 static const unsigned char *rule; /* of the record that stands */
 static uint64_t left_out[LIBRARY_CALLS]; /* bits of each call's answer that are not compared; all: it is not made */
-static int stores_apart, without_small;
+static int stores_apart, without_small, by_the_bit[2]; /* by_the_bit: whether a bit of scratch for each letter is enough */
 static unsigned long compared[LIBRARY_CALLS], refused, damaged_calls, total;
 
 /* ---- one call on both */
@@ -61,12 +63,41 @@ static uint64_t same_answer(unsigned which, const uint64_t *answers)
     return answers[0];
 }
 
-static void lend(uint8_t **to, int slot, size_t n, uint8_t filling)
+static uint8_t *lend(int slot, size_t n, uint8_t filling)
 {
-    for (int i = 0; i < 2; i++) {
-        to[i] = guard_room(slot + i, n);
-        memset(to[i], filling, n);
+    return memset(guard_room(slot, n), filling, n);
+}
+
+/* the scratch that a version needs for a list of its store; any that is not good is refused before */
+static size_t scratch_need(int i)
+{
+    size_t n = mirror_first(both[i].length(stores[i], length));
+    return by_the_bit[i] ? MIRROR_LIST_SCRATCH(n) : 4 * n;
+}
+
+/* An accepted list leaves zeros in what it needs and every byte beyond as it was, a refused one every byte: where the two
+ * versions need unlike scratch, their bytes cannot be held against each other. */
+static void scratch_left(int i, size_t need, size_t lent, uint64_t answer)
+{
+    for (size_t k = 0; k < lent; k++) {
+        uint8_t wanted = (answer & 0xff) == 0 && k < need ? 0 : SCRATCH_FILLING;
+        if (scratches[i][k] == wanted) continue;
+        printf("byte %zu of %zu, of which %zu are needed, in version %d: ", k, lent, need, i + 1);
+        differ(LIST, "the scratch from what it must be", wanted, scratches[i][k]);
     }
+}
+
+/* A list on one version. The call counts the bytes of scratch from one too few on, so 1 is what this version needs; where that
+ * is none, from none on. */
+static uint64_t make_list(int i, const call *c)
+{
+    size_t need = scratch_need(i);
+    call mine = *c;
+    mine.scratch_length += need - (need > 0);
+    scratches[i] = lend(SCRATCH_SLOT + i, mine.scratch_length, SCRATCH_FILLING);
+    uint64_t answer = call_make(&both[i], stores[i], length, &mine, &(buffers){text, scratches[i], outs[i]});
+    scratch_left(i, need, mine.scratch_length, answer);
+    return answer;
 }
 
 static uint64_t make(const call *c)
@@ -75,15 +106,12 @@ static uint64_t make(const call *c)
     uint64_t answers[2];
     if (left_out[which] == UINT64_MAX) return 0xff;
     text = guarded(TEXT_SLOT, c->text, c->text_length);
-    lend(outs, OUT_SLOT, c->out_length, 0x5a);
-    lend(scratches, SCRATCH_SLOT, c->scratch_length, 0xa5);
     for (int i = 0; i < 2; i++) {
-        buffers lent = {text, scratches[i], outs[i]};
-        answers[i] = call_make(&both[i], stores[i], length, c, &lent);
+        outs[i] = lend(OUT_SLOT + i, c->out_length, OUT_FILLING);
+        answers[i] = c->kind == LIST ? make_list(i, c) : call_make(&both[i], stores[i], length, c, &(buffers){text, NULL, outs[i]});
     }
     if (!stores_apart) same_bytes(which, "the store", stores, whole);
     same_bytes(which, "the output", outs, c->out_length);
-    same_bytes(which, "the scratch", scratches, c->scratch_length);
     if (c->text_length > 0 && memcmp(text, c->text, c->text_length) != 0) differ(which, "the text lent", 0, 1);
     return same_answer(which, answers);
 }
@@ -162,7 +190,7 @@ static call some_call(call_kind kind, unsigned alphabet)
     if (kind == FIND) c.text_length = some_piece(bytes);
     if (kind == LIST) {
         c.text_length = some_name(bytes);
-        c.scratch_length = MIRROR_LIST_SCRATCH(size) + random_below(4) - (size > 0 && random_below(12) == 0);
+        c.scratch_length = random_below(12) ? 1 + random_below(random_below(6) ? 3 : 4 * (unsigned)size + 1) : 0; /* as make_list counts them */
         c.out_length = random_below(12) ? MIRROR_LIST_SIZE(size) : random_below((unsigned)MIRROR_LIST_SIZE(size) + 1);
     }
     return c;
@@ -306,7 +334,14 @@ static unsigned char letter_of(unsigned word, unsigned reading, size_t i)
     return (unsigned char)"AC"[second];
 }
 
-/* an addition or a removal at the right (0), at the left (1) or at either end (2), then what stands at both */
+static void ask_list(void)
+{
+    call c = some_call(LIST, 4);
+    tighten(&c, make(&c));
+}
+
+/* an addition or a removal at the right (0), at the left (1) or at either end (2), then what stands at both and, now and then, the
+ * list */
 static void change_at(unsigned ends, call_kind at_left, uint64_t letter)
 {
     unsigned right = ends == 2 ? random_below(2) : ends == 0;
@@ -316,15 +351,17 @@ static void change_at(unsigned ends, call_kind at_left, uint64_t letter)
         call asked = {kind, 0, NULL, 0, 0, 0};
         make(&asked);
     }
+    if (random_below(16) == 0) ask_list();
 }
 
-/* a word of n letters joins and is taken away again, and where it is longest it is damaged in every way */
+/* a word of n letters joins and is taken away again, and where it is longest it is listed and damaged in every way */
 static void word_sitting(size_t n)
 {
     unsigned reading = without_inverted() ? PLAIN : random_below(READINGS), word = random_below(WORDS), joined = random_below(3), taken = random_below(3);
     fill(MIRROR_STORE_SIZE(n) + random_below(EXTRA));
     if (!open_both(reading, n)) return;
     for (size_t i = 0; i < n && total < budget; i++) change_at(joined, ADD_LEFT, letter_of(word, reading, i));
+    ask_list();
     if (!stores_apart) spoil_in_every_way();
     for (size_t i = 0; i < n && total < budget; i++) change_at(taken, REMOVE_LEFT, 0);
 }
@@ -360,8 +397,10 @@ static void read_text(void)
     else memcpy(bytes[1], bytes[0], n);
     for (int i = 0; i < 2; i++) texts[i] = guarded(SCRATCH_SLOT + i, bytes[i], n); /* the reader takes no scratch */
     for (int again = 0; again < 2; again++) {
-        lend(outs, OUT_SLOT, room, 0x5a);
-        for (int i = 0; i < 2; i++) answers[i] = both[i].fasta(texts[i], n, outs[i], room);
+        for (int i = 0; i < 2; i++) {
+            outs[i] = lend(OUT_SLOT + i, room, OUT_FILLING);
+            answers[i] = both[i].fasta(texts[i], n, outs[i], room);
+        }
         same_bytes(FASTA, "the output", outs, room);
         for (int i = 0; i < 2; i++)
             if (memcmp(texts[i], bytes[i], n) != 0) differ(FASTA, "the text lent", 0, 1);
@@ -415,6 +454,15 @@ static void leave_out(const char *what)
     }
 }
 
+/* whether a version lists eight letters with one byte of scratch */
+static int takes_a_bit(const library *of)
+{
+    static uint8_t store[MIRROR_STORE_SIZE(MOST)], scratch[1], out[MIRROR_LIST_SIZE(8)];
+    of->open(store, sizeof store, 8);
+    for (int i = 0; i < 8; i++) of->add_right(store, sizeof store, 'A');
+    return mirror_refusal(of->list(store, sizeof store, (const uint8_t *)"e1", 2, scratch, sizeof scratch, out, sizeof out)) == 0;
+}
+
 static void load(char **paths)
 {
     unsigned char has[2][LIBRARY_CALLS];
@@ -424,9 +472,12 @@ static void load(char **paths)
         printf("%s is not in both: left out\n", library_names[c]);
         left_out[c] = UINT64_MAX;
     }
-    if (left_out[OPEN] == 0) return;
-    fprintf(stderr, "versions: no record can be opened\n");
-    exit(2);
+    if (left_out[OPEN] || left_out[ADD_RIGHT] || left_out[LENGTH]) {
+        fprintf(stderr, "versions: no record can be opened and followed\n");
+        exit(2);
+    }
+    for (int i = 0; i < 2 && !left_out[LIST]; i++) by_the_bit[i] = takes_a_bit(&both[i]);
+    if (by_the_bit[0] != by_the_bit[1]) printf("a list takes a bit of scratch for each letter in version %d alone, four bytes in the other\n", 2 - by_the_bit[0]);
 }
 
 int main(int argc, char **argv)

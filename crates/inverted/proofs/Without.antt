@@ -1,7 +1,7 @@
 -- Where no repeat stands: 02 (vi) "an end without a repeat answers row 1 and "not once only". The longest repeat of a non-empty record that has none is length 0 at place 0", a list that
 -- is empty though letters stand, and an addition that makes no repeat. In a plain record with letters every end has a repeat, but the laws hold in either reading. Rests on the
 -- definitions of the answers and on the row of the empty string.
-use Prim.Native.Nat.{ℕ, _*_, _≤_, _<_}
+use Prim.Native.Nat.{ℕ, _≤_, _<_}
 use native.Mathlib.Omega.{arith}
 use mathlib.Core.Path.{_≡_, refl, sym, ap, ap₂, _∙_}
 use mathlib.Core.Bool.{Bool, true, false, cond, not}
@@ -18,7 +18,7 @@ use Rattle.palindromes.specs.End.{End, atLeft, atRight, added, longestAt}
 use Rattle.palindromes.specs.Node.{spelt}
 use Rattle.palindromes.specs.Bed.{isIdentifier, bedLines, listing}
 use Rattle.palindromes.specs.SearchSteps.{searchSteps, reportedSteps}
-use Rattle.palindromes.specs.Refusal.{theLongest, theLongestAt, list, add, ask, refusal}
+use Rattle.palindromes.specs.Refusal.{theLongest, theLongestAt, list, add, ask, scratchSize, refusal}
 use Rattle.palindromes.proofs.Places.{frequency-cons, stands-is, stands-empty}
 use Rattle.palindromes.proofs.Readings.{rule-of-plain}
 use Rattle.palindromes.proofs.SearchSteps.{some-grown}
@@ -69,17 +69,17 @@ module _ (b : Word) (none : palindromes (ruleOf b) (lettersIn b) ≡ []) where
 
   -- the list answers no byte, writes none, and leaves zeros in its scratch
   pub list-without : (name : Word) (l : Lent)
-      → (answerTo (list name) b ≡ answer false 0 0 0) × (lentAfter (list name) b l ≡ record { scratch = written (replicate (4 * length (lettersIn b)) 0) (l .scratch); out = l .out })
+      → (answerTo (list name) b ≡ answer false 0 0 0) × (lentAfter (list name) b l ≡ record { scratch = written (replicate (scratchSize (length (lettersIn b))) 0) (l .scratch); out = l .out })
   unfolding answerTo lentAfter written
   list-without name l = (
     ap (λ (w : Word). answer false 0 (length w) 0) (nothing-listed name),
-    ap (λ (w : Word). record { scratch = written (replicate (4 * length (lettersIn b)) 0) (l .scratch); out = written w (l .out) }) (nothing-listed name),
+    ap (λ (w : Word). record { scratch = written (replicate (scratchSize (length (lettersIn b))) 0) (l .scratch); out = written w (l .out) }) (nothing-listed name),
   )
 
   -- it needs no output, and its scratch all the same
   pub list-needs : (name : Word) (l : Lent) → isIdentifier name ≡ true
-      → (4 * length (lettersIn b) ≤ length (l .scratch) → refusal (ruleOf b) (viewIn b l) (ask (list name)) ≡ 0)
-      × (length (l .scratch) < 4 * length (lettersIn b) → refusal (ruleOf b) (viewIn b l) (ask (list name)) ≡ 9)
+      → (scratchSize (length (lettersIn b)) ≤ length (l .scratch) → refusal (ruleOf b) (viewIn b l) (ask (list name)) ≡ 0)
+      × (length (l .scratch) < scratchSize (length (lettersIn b)) → refusal (ruleOf b) (viewIn b l) (ask (list name)) ≡ 9)
   list-needs name l h = (
     λ room. list-accepted b l name h room (omega (arith, ap length (nothing-listed name))),
     λ short. list-scratch b l name h short,

@@ -29,7 +29,7 @@ pub fn list_letters(name: &[u8], letters: &[u8], out: &mut [u8]) -> usize
     ensures behind { λ r. ⌜ r ≡ length (listing plain (now (name .entry)) (now (letters .entry))) ⌝ }
 {
     let mut store = blank();
-    let mut scratch = [0u8; 4096];
+    let mut scratch = [0u8; 128];
     opening::open(&mut store, Reading::Plain, 1024);
     fill(&mut store, Side::Right, letters);
     listing::list(&store, name, &mut scratch, out)

@@ -1,5 +1,5 @@
 -- What listing the repeats promises, on plain values. Rests on `Refusals`, `Promises` and `Fits` of the outcomes.
-use Prim.Native.Nat.{ℕ, _-_, _≤_, _<_, _*_}
+use Prim.Native.Nat.{ℕ, _≤_, _<_}
 use mathlib.Core.Path.{_≡_, refl, sym, ap, _∙_, ap₂}
 use mathlib.Core.Bool.{Bool, true, false}
 use native.Mathlib.Omega.{arith}
@@ -7,7 +7,7 @@ use lib.Dec.{leb}
 use lib.ListN.{length, replicate}
 use borrow.Author.Tests.{leb-true, leb-false}
 use Rattle.palindromes.specs.Word.{Word}
-use Rattle.palindromes.specs.Refusal.{ask, refusal, list}
+use Rattle.palindromes.specs.Refusal.{ask, list, scratchSize, refusal}
 use Rattle.store.specs.Layout.{lettersIn}
 use Rattle.store.specs.Good.{ruleOf, Good}
 use Rattle.outcome.specs.Reply.{packed, accepted}
@@ -24,10 +24,10 @@ module _ (b : Word) (g : Good b) (name scratch out : Word) where
   pub bad-name : isIdentifier name ≡ false → Verdict (ask (list name)) b (lending scratch out) 10
   bad-name h = judged g (sym (list-name b (lending scratch out) name h))
 
-  pub scratch-short : {n : ℕ} → isIdentifier name ≡ true → n ≡ length (lettersIn b) → length scratch < 4 * n → Verdict (ask (list name)) b (lending scratch out) 9
+  pub scratch-short : {n : ℕ} → isIdentifier name ≡ true → n ≡ scratchSize (length (lettersIn b)) → length scratch < n → Verdict (ask (list name)) b (lending scratch out) 9
   scratch-short h e l = judged g (sym (list-scratch b (lending scratch out) name h (omega (arith, e, l))))
 
-  module _ {n m : ℕ} (h : isIdentifier name ≡ true) (e : n ≡ length (lettersIn b)) (l : 4 * n ≤ length scratch) (f : m ≡ length (listing (ruleOf b) name (lettersIn b))) where
+  module _ {n m : ℕ} (h : isIdentifier name ≡ true) (e : n ≡ scratchSize (length (lettersIn b))) (l : n ≤ length scratch) (f : m ≡ length (listing (ruleOf b) name (lettersIn b))) where
     pub out-short : length out < m → Verdict (ask (list name)) b (lending scratch out) 9
     out-short k = judged g (sym (list-out b (lending scratch out) name h (omega (arith, e, l)) (omega (arith, f, k))))
 
@@ -37,7 +37,7 @@ module _ (b : Word) (g : Good b) (name scratch out : Word) where
 pub record Listable (name b scratch out : Word) : Type 0 where
   pub good : Good b
   pub named : isIdentifier name ≡ true
-  pub marks : 4 * length (lettersIn b) ≤ length scratch
+  pub marks : scratchSize (length (lettersIn b)) ≤ length scratch
   pub room : length (listing (ruleOf b) name (lettersIn b)) ≤ length out
   pub clear : refusal (ruleOf b) (viewIn b (lending scratch out)) (ask (list name)) ≡ 0
 
@@ -45,14 +45,14 @@ pub listable : (name b scratch out : Word) (n : ℕ) → Verdict (ask (list name
 listable name b scratch out n v z =
     let h = cleared (ask (list name)) b (lending scratch out) n v z in
     let i = list-named b (lending scratch out) name (h .1) in
-    let m : 4 * length (lettersIn b) ≤ length scratch = marks i (h .1) (leb (4 * length (lettersIn b)) (length scratch)) refl in
+    let m : scratchSize (length (lettersIn b)) ≤ length scratch = marks i (h .1) (leb (scratchSize (length (lettersIn b))) (length scratch)) refl in
     record { good = h .0; named = i; marks = m; room = room i m (h .1) (leb (length (listing (ruleOf b) name (lettersIn b))) (length out)) refl; clear = h .1 }
   where
-    marks : isIdentifier name ≡ true → refusal (ruleOf b) (viewIn b (lending scratch out)) (ask (list name)) ≡ 0 → (t : Bool) → leb (4 * length (lettersIn b)) (length scratch) ≡ t → 4 * length (lettersIn b) ≤ length scratch
-    marks i k true x = leb-true (4 * length (lettersIn b)) (length scratch) x
-    marks i k false x = absurd (omega (arith, list-scratch b (lending scratch out) name i (leb-false (4 * length (lettersIn b)) (length scratch) x)))
+    marks : isIdentifier name ≡ true → refusal (ruleOf b) (viewIn b (lending scratch out)) (ask (list name)) ≡ 0 → (t : Bool) → leb (scratchSize (length (lettersIn b))) (length scratch) ≡ t → scratchSize (length (lettersIn b)) ≤ length scratch
+    marks i k true x = leb-true (scratchSize (length (lettersIn b))) (length scratch) x
+    marks i k false x = absurd (omega (arith, list-scratch b (lending scratch out) name i (leb-false (scratchSize (length (lettersIn b))) (length scratch) x)))
 
-    room : isIdentifier name ≡ true → 4 * length (lettersIn b) ≤ length scratch → refusal (ruleOf b) (viewIn b (lending scratch out)) (ask (list name)) ≡ 0 → (t : Bool) → leb (length (listing (ruleOf b) name (lettersIn b))) (length out) ≡ t
+    room : isIdentifier name ≡ true → scratchSize (length (lettersIn b)) ≤ length scratch → refusal (ruleOf b) (viewIn b (lending scratch out)) (ask (list name)) ≡ 0 → (t : Bool) → leb (length (listing (ruleOf b) name (lettersIn b))) (length out) ≡ t
         → length (listing (ruleOf b) name (lettersIn b)) ≤ length out
     room i m k true x = leb-true (length (listing (ruleOf b) name (lettersIn b))) (length out) x
     room i m k false x = absurd (omega (arith, list-out b (lending scratch out) name i m (leb-false (length (listing (ruleOf b) name (lettersIn b))) (length out) x)))
@@ -62,7 +62,7 @@ unfolding answerTo accepted
 listing-packs name b scratch out a e = (omega arith, omega (arith, answer-fits (a .good) (list name) (lending scratch out) (a .clear) .first), omega arith)
 
 pub listed-out : (name b scratch out : Word) {x n : ℕ} {scratch′ out′ : Word} → Listable name b scratch out → x ≡ packed (accepted false 0 n 0)
-    → n ≡ length (listing (ruleOf b) name (lettersIn b)) → scratch′ ≡ sets scratch 0 (replicate (4 * length (lettersIn b)) 0) → out′ ≡ sets out 0 (listing (ruleOf b) name (lettersIn b))
+    → n ≡ length (listing (ruleOf b) name (lettersIn b)) → scratch′ ≡ sets scratch 0 (replicate (scratchSize (length (lettersIn b))) 0) → out′ ≡ sets out 0 (listing (ruleOf b) name (lettersIn b))
     → Promise (ask (list name)) b (lending scratch out) x b (lending scratch′ out′)
 unfolding acceptedOutcome answerTo lentAfter written
 listed-out name b scratch out a p e f g =

@@ -6,7 +6,6 @@ ghost use Rattle.outcome.specs.Verdict.{Verdict};
 use identifier::is_identifier;
 use outcome::pack;
 use outcome::refuse;
-use questions::record;
 
 // The refusal number of listing, 0 where the list can be written.
 fn judge_list(store: &[u8], name: &[u8], scratch: &[u8], out: &[u8]) -> u64
@@ -18,7 +17,7 @@ fn judge_list(store: &[u8], name: &[u8], scratch: &[u8], out: &[u8]) -> u64
     if !is_identifier(name) {
         return 10;
     }
-    if scratch.len() < 4 * record::length(store) {
+    if scratch.len() < listing::scratch_size(store) {
         return 9;
     }
     if out.len() < listing::listing_length(store, name) {

@@ -1,11 +1,11 @@
 -- The list of palindromes as it is written while the letters are read: a letter more adds a line where the palindrome that ends there is met for the first time, and nothing else. No list of
 -- the first letters is longer than the whole, so a buffer with room for the whole has room for each line.
--- Rests on `prefix-listing` of palindromes and on the marks (`Marking`).
+-- Rests on `prefix-listing` of palindromes.
 use Prim.Native.Nat.{ℕ, zero, suc, _+_, _-_, _≤_, _<_}
 use native.Mathlib.Omega.{arith}
 use native.Mathlib.Nat.{add-zero}
 use native.Mathlib.Numerals.{add-one}
-use mathlib.Core.Path.{_≡_, sym, ap, _∙_}
+use mathlib.Core.Path.{_≡_, refl, sym, ap, _∙_}
 use mathlib.Core.Bool.{Bool, true, false, cond}
 use mathlib.Core.List.{[], _++_, append-nil}
 use lib.ListN.{length, take, length-append}
@@ -13,19 +13,17 @@ use lib.Seq.{take-length}
 use borrow.Author.Tests.{not-true, not-false}
 use Rattle.palindromes.specs.Word.{Word}
 use Rattle.palindromes.specs.Place.{stands}
+use Rattle.palindromes.specs.Node.{spellingOf}
 use Rattle.palindromes.specs.Bed.{isIdentifier, bedLine, listing}
 use Rattle.palindromes.proofs.Listing.{listing-empty, prefix-listing}
 use Rattle.store.specs.Layout.{sizeIn, lettersIn}
-use Rattle.store.specs.Good.{ruleOf, Good}
+use Rattle.store.specs.Good.{ruleOf, nodeIn, Good}
 use Rattle.store.proofs.Sizes.{letters-length}
 use Rattle.identifier.proofs.Identifiers.{identifier-length}
-use Rattle.walk.specs.Replay.{endingIn}
-use Rattle.listing.specs.Listing.{listingIn}
-use Rattle.listing.specs.Marks.{ReadOn}
-
--- the line of the palindrome that ends the first k letters
-abbrev lineOf : Word → Word → ℕ → Word
-lineOf b name k = bedLine name (k - length (endingIn b k)) k
+use Rattle.walk.specs.Replay.{endingIn, Holds}
+use Rattle.walk.proofs.Reading.{ending-length, ending-most}
+use Rattle.listing.specs.Listing.{listingIn, lineIn}
+use Rattle.listing.specs.Reading.{newAt}
 
 -- the list of the first k letters
 abbrev pub listed : Word → Word → ℕ → Word
@@ -42,27 +40,38 @@ module _ {b : Word} (g : Good b) (name : Word) where
 
   module _ (k : ℕ) (l : k < sizeIn b) where
     -- one letter more adds the line of the palindrome that ends there, where it stood nowhere before
-    more : listed b name (k + 1) ≡ listed b name k ++ cond (stands (endingIn b (k + 1)) (take k (lettersIn b))) [] (lineOf b name (k + 1))
+    more : listed b name (k + 1) ≡ listed b name k ++ cond (stands (endingIn b (k + 1)) (take k (lettersIn b))) [] (lineIn b name (k + 1))
     more = cc (add-one k, prefix-listing (ruleOf b) name (lettersIn b) k (omega (arith, letters-length (g .sized))))
 
-    pub listed-longer : length (listed b name k) ≤ length (listed b name (k + 1))
-    listed-longer =
-        omega (arith, ap length more, length-append (listed b name k) (cond (stands (endingIn b (k + 1)) (take k (lettersIn b))) [] (lineOf b name (k + 1))))
+    -- a new one adds its line
+    pub listed-new : newAt b k ≡ true → listed b name (k + 1) ≡ listed b name k ++ lineIn b name (k + 1)
+    listed-new e = cc (more, not-true (stands (endingIn b (k + 1)) (take k (lettersIn b))) e)
 
-    module _ {old marks : Word} {row start : ℕ} {first : Bool} (a : ReadOn b k old row start first marks) where
-      -- the numbers of its line are small, and so is the name
-      pub line-small : isIdentifier name ≡ true → (length name ≤ 32) × (start < 65536) × (k + 1 < 65536)
-      line-small h =
-          let end : k + 1 < 65536 = omega (arith, g .sized .letters-fit, g .sized .at-most) in
-          (identifier-length name h, omega (arith, a .start-is), end)
+    -- any other nothing
+    pub listed-old : newAt b k ≡ false → listed b name (k + 1) ≡ listed b name k
+    listed-old e = cc (more, append-nil (listed b name k), not-false (stands (endingIn b (k + 1)) (take k (lettersIn b))) e)
 
-      -- a palindrome met for the first time adds its line
-      pub listed-new : first ≡ true → listed b name (k + 1) ≡ listed b name k ++ bedLine name start (k + 1)
-      listed-new e = cc (more, a .start-is, not-true (stands (endingIn b (k + 1)) (take k (lettersIn b))) (sym (a .first-is) ∙ e))
+    -- so many bytes
+    pub listed-length : length (listed b name (k + 1)) ≡ length (listed b name k) + cond (newAt b k) (length (lineIn b name (k + 1))) 0
+    listed-length = go (newAt b k) refl
+      where
+        go : (t : Bool) → newAt b k ≡ t → length (listed b name (k + 1)) ≡ length (listed b name k) + cond t (length (lineIn b name (k + 1))) 0
+        go true e = ap length (listed-new e) ∙ length-append (listed b name k) (lineIn b name (k + 1))
+        go false e = ap length (listed-old e) ∙ sym (add-zero (length (listed b name k)))
 
-      -- any other nothing
-      pub listed-old : first ≡ false → listed b name (k + 1) ≡ listed b name k
-      listed-old e = cc (more, append-nil (listed b name k), not-false (stands (endingIn b (k + 1)) (take k (lettersIn b))) (sym (a .first-is) ∙ e))
+    -- its line begins as many letters before its end as its row spells
+    module _ {row n : ℕ} (h : Holds b (k + 1) row) (e : n ≡ length (spellingOf (nodeIn b row))) where
+      pub line-is : bedLine name (k + 1 - n) (k + 1) ≡ lineIn b name (k + 1)
+      line-is = ap (λ (m : ℕ). bedLine name (k + 1 - m) (k + 1)) (e ∙ ending-length h)
+
+      pub line-starts : n ≤ k + 1
+      line-starts = omega (arith, e ∙ ending-length h, ending-most b (k + 1))
+
+    -- the numbers of a line are small, and so is the name
+    pub line-small : (n : ℕ) → isIdentifier name ≡ true → (length name ≤ 32) × (k + 1 - n < 65536) × (k + 1 < 65536)
+    line-small n h =
+        let end : k + 1 < 65536 = omega (arith, g .sized .letters-fit, g .sized .at-most) in
+        (identifier-length name h, omega arith, end)
 
   -- no list of the first letters is longer than the whole
   pub listed-most : (k : ℕ) → k ≤ sizeIn b → length (listed b name k) ≤ length (listingIn b name)
@@ -70,4 +79,4 @@ module _ {b : Word} (g : Good b) (name : Word) where
     where
       go : (d k : ℕ) → k + d ≡ sizeIn b → length (listed b name k) ≤ length (listingIn b name)
       go zero k e = omega (arith, ap length (listed-all k (sym (add-zero k) ∙ e)))
-      go (suc d) k e = omega (arith, listed-longer k (omega arith), go d (k + 1) (omega arith))
+      go (suc d) k e = omega (arith, listed-length k (omega arith), go d (k + 1) (omega arith))

@@ -1,25 +1,27 @@
--- The marks of a walk over the letters: each step marks the row of the longest palindrome that then ends what is read, so that a palindrome of the record has its mark exactly if it stands in
--- what is read; and a palindrome is met for the first time exactly if its row has no mark yet.
--- Rests on `prefix-met` of palindromes and on the laws of a good store's rows: no two rows in use have the same rank.
-use Prim.Native.Nat.{ℕ, _+_, _-_, _≤_, _<_}
+-- The marks of a walk over the letters: each step marks the row of the longest palindrome that then ends what is read, so that a palindrome of the window has its mark exactly if it stands in
+-- what is read; and it is met for the first time exactly if its row has no mark yet.
+-- Rests on `prefix-met` of palindromes, on the laws of bits, and on those of a good store's rows: no two rows in use have the same rank.
+use Prim.Native.Nat.{ℕ, _+_, _-_, _*_, _/_, _≤_, _<_}
 use native.Mathlib.Omega.{arith}
 use native.Mathlib.Numerals.{add-one}
+use native.Mathlib.Decide.{decLt}
 use mathlib.Core.Path.{_≡_, refl, sym, ap, _∙_, subst}
-use mathlib.Core.Bool.{true, false, not, or-false}
-use mathlib.Core.Logic.{_≢_, ⊎-elim}
+use mathlib.Core.Bool.{Bool, true, false, _&&_, not, or-false, and-false, and-true}
+use mathlib.Core.Logic.{_≢_, _⊎_, inl, inr, ⊎-elim}
 use mathlib.Core.List.{[]}
-use lib.Dec.{eqb}
-use lib.ListN.{length, getD, set, take, length-set}
-use lib.Seq.{getD-set-same, getD-set-other}
-use borrow.Author.Tests.{eq-eqb, ne-eqb, not-false}
+use lib.ListN.{length, getD, take}
+use borrow.Author.Tests.{not-false}
 use Rattle.palindromes.specs.Word.{Word, sameWord}
 use Rattle.palindromes.specs.Place.{stands}
 use Rattle.palindromes.specs.Node.{spelt}
-use Rattle.palindromes.proofs.Tests.{not-true-false, same-true}
+use Rattle.palindromes.specs.Refusal.{scratchSize}
+use Rattle.palindromes.proofs.Tests.{both-are, not-true-false, false-not-true, same-true}
 use Rattle.palindromes.proofs.Words.{same-or-not, suffix-stands, stands-of-empty}
 use Rattle.palindromes.proofs.Longest.{longest-suffix}
 use Rattle.palindromes.proofs.Places.{stands-true, stands-is, stands-empty}
 use Rattle.palindromes.proofs.Answers.{prefix-met}
+use Rattle.bitmap.specs.Bitmap.{bitAt, withBit, inWindow, Marked, beyond, again, fresh}
+use Rattle.bitmap.proofs.Bits.{bit-same, bit-other, bit-none, with-length, window-true, window-is}
 use Rattle.eertree.specs.Covers.{NodeOf}
 use Rattle.eertree.proofs.Rows.{word-row, row-high}
 use Rattle.store.specs.Layout.{sizeIn, rankIn, usedIn, lettersIn}
@@ -28,10 +30,15 @@ use Rattle.store.proofs.Sizes.{used-below, letters-length}
 use Rattle.transitions.proofs.Rows.{covers, used-rank, count-most}
 use Rattle.walk.specs.Replay.{endingIn, Holds}
 use Rattle.walk.proofs.Reading.{holds-first}
-use Rattle.listing.specs.Marks.{ReadTo, ReadOn}
-use Rattle.listing.proofs.Stores.{sets-over}
+use Rattle.listing.specs.Reading.{newAt, ReadTo, ReadOn}
+use Rattle.listing.proofs.Stores.{bit-over}
 
--- ---- ranks
+-- ---- bits and ranks
+
+-- the scratch has a bit for each letter, and with a byte less it would not
+pub scratch-bits : (n : ℕ) → (n ≤ 8 * scratchSize n) × (8 * scratchSize n < n + 8)
+unfolding scratchSize
+scratch-bits n = (omega arith, omega arith)
 
 module _ {b : Word} (g : Good b) where
   -- a row in use has its mark within the first letters' number of marks
@@ -44,22 +51,36 @@ module _ {b : Word} (g : Good b) where
 
   -- ---- the first letter
 
+  -- a mark lies in the bytes that the letters' number of bits take
+  mark-byte : (r from : ℕ) → usedIn b r ≡ true → 2 ≤ r → (rankIn b r - from) / 8 < scratchSize (sizeIn b)
+  mark-byte r from u l = omega (arith, rank-below r u l, scratch-bits (sizeIn b) .0)
+
   -- before it no palindrome stands, and nothing is marked
-  pub reads-first : (marks : Word) → sizeIn b ≤ length marks → ((i : ℕ) → i < sizeIn b → getD marks i 0 ≡ 0) → ReadTo b 0 1 marks
-  reads-first marks m none =
+  pub reads-first : (from : ℕ) (marks : Word) → ((i : ℕ) → i < scratchSize (sizeIn b) → i < length marks → getD marks i 0 ≡ 0) → ReadTo b from 0 1 marks
+  reads-first from marks none =
       record {
         ends = holds-first g;
-        room = m;
-        tells = λ r w u l e.
+        tells = λ r w u l e i.
             let p = word-row (covers g) r u l in
             let f : w ≡ p .0 = cc (p .1) in
             let out : stands w [] ≡ false = not-true-false (stands w []) λ s. p .2 .non-empty (cc (stands-of-empty (stands-true w [] s))) in
-            cc (none (rankIn b r) (rank-below r u l), out);
+            bit-none marks (rankIn b r - from) (none ((rankIn b r - from) / 8) (mark-byte r from u l) (within (window-true from (rankIn b r) marks i))) ∙ sym out;
       }
+    where
+      within : {x : ℕ} → (from ≤ x) × (x < from + 8 * length marks) → (x - from) / 8 < length marks
+      within {x} h = omega (arith, h .0, h .1)
 
   -- ---- one letter more
 
-  module _ {k row last : ℕ} {marks : Word} (l : k < sizeIn b) (a : ReadTo b k row marks) (h : Holds b (k + 1) last) where
+  -- a root's palindrome stood before
+  pub root-old : (k : ℕ) {last : ℕ} → Holds b (k + 1) last → last < 2 → newAt b k ≡ false
+  root-old k {last} h m = ap not (stood (same-or-not (endingIn b (k + 1)) []))
+    where
+      stood : (endingIn b (k + 1) ≡ []) ⊎ (endingIn b (k + 1) ≡ [] → ⊥) → stands (endingIn b (k + 1)) (take k (lettersIn b)) ≡ true
+      stood (inl e) = stands-is (endingIn b (k + 1)) (take k (lettersIn b)) (rw e (stands-empty (take k (lettersIn b))))
+      stood (inr n) = absurd (omega (arith, row-high (covers g) last (h .holds) n))
+
+  module _ {from k row last : ℕ} {marks : Word} (l : k < sizeIn b) (a : ReadTo b from k row marks) (h : Holds b (k + 1) last) where
     -- a palindrome of the record other than the one that ends there stands if it did before
     met-other : (r : ℕ) (w : Word) → usedIn b r ≡ true → nodeIn b r ≡ spelt w → (w ≡ endingIn b (k + 1) → ⊥) → stands w (take k (lettersIn b)) ≡ stands w (take (k + 1) (lettersIn b))
     met-other r w u e n =
@@ -71,53 +92,77 @@ module _ {b : Word} (g : Good b) where
     met-ending : stands (endingIn b (k + 1)) (take (k + 1) (lettersIn b)) ≡ true
     met-ending = stands-is (endingIn b (k + 1)) (take (k + 1) (lettersIn b)) (suffix-stands (longest-suffix (ruleOf b) (take (k + 1) (lettersIn b)) .suffix))
 
-    -- it stood before if it has a root's row
-    pub stood-root : last < 2 → stands (endingIn b (k + 1)) (take k (lettersIn b)) ≡ true
-    stood-root m =
-        ⊎-elim
-        (λ e. stands-is (endingIn b (k + 1)) (take k (lettersIn b)) (rw e (stands-empty (take k (lettersIn b)))))
-        (λ n. absurd (omega (arith, row-high (covers g) last (h .holds) n)))
-        (same-or-not (endingIn b (k + 1)) [])
+    -- whose row is its own
+    ending-row : (r : ℕ) (w : Word) → usedIn b r ≡ true → nodeIn b r ≡ spelt w → w ≡ endingIn b (k + 1) → r ≡ last
+    ending-row r w u e i = g .table .one-row r last u (h .used) (cc (h .holds))
 
-    -- and else exactly if its row has a mark
-    pub stood-marked : 2 ≤ last → (getD marks (rankIn b last) 0 ≡ 0 → ⊥) → stands (endingIn b (k + 1)) (take k (lettersIn b)) ≡ true
-    stood-marked m n =
-        not-false (stands (endingIn b (k + 1)) (take k (lettersIn b)))
-        (sym (a .tells last (endingIn b (k + 1)) (h .used) m (h .holds)) ∙ ne-eqb (getD marks (rankIn b last) 0) 0 n)
+    -- where it stood before nothing is marked
+    reads-old : newAt b k ≡ false → ReadOn b from k marks last false marks
+    reads-old o =
+        record {
+          reads = record { ends = h; tells = λ r w u m e i. a .tells r w u m e i ∙ same r w u e };
+          first-is = sym (ap (λ (t : Bool). t && inWindow from (rankIn b last) marks) o);
+          kept = λ w m. refl;
+        }
+      where
+        same : (r : ℕ) (w : Word) → usedIn b r ≡ true → nodeIn b r ≡ spelt w → stands w (take k (lettersIn b)) ≡ stands w (take (k + 1) (lettersIn b))
+        same r w u e = ⊎-elim (λ i. cc (met-ending, not-false (stands (endingIn b (k + 1)) (take k (lettersIn b))) o)) (met-other r w u e) (same-or-not w (endingIn b (k + 1)))
 
-    module _ (start : ℕ) (s : start ≡ k + 1 - length (endingIn b (k + 1))) where
-      -- where it stood before nothing is marked
-      pub reads-old : stands (endingIn b (k + 1)) (take k (lettersIn b)) ≡ true → ReadOn b k marks last start false marks
-      reads-old o =
-          record {
-            reads = record { ends = h; room = a .room; tells = λ r w u m e. a .tells r w u m e ∙ ap not (same r w u e) };
-            start-is = s;
-            first-is = sym (ap not o);
-            kept = λ w m. refl;
-          }
-        where
-          same : (r : ℕ) (w : Word) → usedIn b r ≡ true → nodeIn b r ≡ spelt w → stands w (take k (lettersIn b)) ≡ stands w (take (k + 1) (lettersIn b))
-          same r w u e = ⊎-elim (λ i. cc (met-ending, o)) (met-other r w u e) (same-or-not w (endingIn b (k + 1)))
+    -- so it is if it has a root's row
+    pub reads-root : last < 2 → ReadOn b from k marks last false marks
+    reads-root m = reads-old (root-old k h m)
 
-      -- where it did not its row is
-      pub reads-new : 2 ≤ last → getD marks (rankIn b last) 0 ≡ 0 → ReadOn b k marks last start true (set marks (rankIn b last) 1)
-      reads-new n z =
-          record {
-            reads = record { ends = h; room = rw (length-set marks (rankIn b last) 1) (a .room); tells = tells };
-            start-is = s;
-            first-is = sym (eq-eqb (getD marks (rankIn b last) 0) 0 z) ∙ a .tells last (endingIn b (k + 1)) (h .used) n (h .holds);
-            kept = λ w m. sets-over marks (rankIn b last) 1 0 w (omega arith) (omega (arith, rank-below last (h .used) n));
-          }
-        where
-          tells : (r : ℕ) (w : Word) → usedIn b r ≡ true → 2 ≤ r → nodeIn b r ≡ spelt w → eqb (getD (set marks (rankIn b last) 1) (rankIn b r) 0) 0 ≡ not (stands w (take (k + 1) (lettersIn b)))
-          tells r w u m e = ⊎-elim here other (same-or-not w (endingIn b (k + 1)))
-            where
-              here : w ≡ endingIn b (k + 1) → eqb (getD (set marks (rankIn b last) 1) (rankIn b r) 0) 0 ≡ not (stands w (take (k + 1) (lettersIn b)))
-              here i =
-                  let f : r ≡ last = g .table .one-row r last u (h .used) (cc (h .holds)) in
-                  cc (met-ending, getD-set-same marks (rankIn b last) 1 0 (omega (arith, a .room, rank-below last (h .used) n)))
+    -- where its rank is beyond the window nothing is marked either
+    reads-beyond : (inWindow from (rankIn b last) marks ≡ false) → ReadOn b from k marks last false marks
+    reads-beyond o =
+        record {
+          reads = record { ends = h; tells = λ r w u m e i. a .tells r w u m e i ∙ met-other r w u e (apart r w u e i) };
+          first-is = sym (ap (λ (t : Bool). newAt b k && t) o ∙ and-false (newAt b k));
+          kept = λ w m. refl;
+        }
+      where
+        apart : (r : ℕ) (w : Word) → usedIn b r ≡ true → nodeIn b r ≡ spelt w → inWindow from (rankIn b r) marks ≡ true → w ≡ endingIn b (k + 1) → ⊥
+        apart r w u e i f = false-not-true o (subst (λ (q : ℕ). inWindow from (rankIn b q) marks ≡ true) (ending-row r w u e f) i)
 
-              other : (w ≡ endingIn b (k + 1) → ⊥) → eqb (getD (set marks (rankIn b last) 1) (rankIn b r) 0) 0 ≡ not (stands w (take (k + 1) (lettersIn b)))
-              other i =
-                  let f : rankIn b r ≢ rankIn b last = λ o. let q = rank-only r last u (h .used) m n o in i (cc (h .holds)) in
-                  cc (getD-set-other marks (rankIn b last) (rankIn b r) 1 0 f, a .tells r w u m e, met-other r w u e i)
+    -- where its row has no mark it gets one
+    reads-new : 2 ≤ last → inWindow from (rankIn b last) marks ≡ true → bitAt marks (rankIn b last - from) ≡ false → ReadOn b from k marks last true (withBit marks (rankIn b last - from))
+    reads-new n i z =
+        record {
+          reads = record { ends = h; tells = tells };
+          first-is = sym (both-are (newAt b k) (inWindow from (rankIn b last) marks) (ap not (sym (a .tells last (endingIn b (k + 1)) (h .used) n (h .holds) i) ∙ z)) i);
+          kept = λ w m. bit-over marks at w (omega (arith, mark-byte last from (h .used) n, m));
+        }
+      where
+        at : ℕ
+        at = rankIn b last - from
+
+        fits : at < 8 * length marks
+        fits = let x = window-true from (rankIn b last) marks i in omega (arith, x .0, x .1)
+
+        tells : (r : ℕ) (w : Word) → usedIn b r ≡ true → 2 ≤ r → nodeIn b r ≡ spelt w → inWindow from (rankIn b r) (withBit marks at) ≡ true → bitAt (withBit marks at) (rankIn b r - from) ≡ stands w (take (k + 1) (lettersIn b))
+        tells r w u m e j = ⊎-elim here other (same-or-not w (endingIn b (k + 1)))
+          where
+            here : w ≡ endingIn b (k + 1) → bitAt (withBit marks at) (rankIn b r - from) ≡ stands w (take (k + 1) (lettersIn b))
+            here f = let q = ending-row r w u e f in cc (met-ending, bit-same marks at fits)
+
+            other : (w ≡ endingIn b (k + 1) → ⊥) → bitAt (withBit marks at) (rankIn b r - from) ≡ stands w (take (k + 1) (lettersIn b))
+            other f =
+                let p : rankIn b r ≢ rankIn b last = λ o. f (cc (rank-only r last u (h .used) m n o, h .holds)) in
+                let x = window-true from (rankIn b r) (withBit marks at) j in
+                let y = window-is from (rankIn b r) marks (x .0) (omega (arith, x .1, with-length marks at)) in
+                bit-other marks at (rankIn b r - from) fits (λ o. p (omega (arith, x .0, window-true from (rankIn b last) marks i .0))) ∙ a .tells r w u m e y ∙ met-other r w u e f
+
+    -- the row's rank marked, whether that is in the window or not
+    pub reads-marked : 2 ≤ last → {rank : ℕ} {first : Bool} {new : Word} → rank ≡ rankIn b last → Marked from rank marks first new → ReadOn b from k marks last first new
+    reads-marked n p (beyond o e f) = rw (e, f) (reads-beyond (rw p at o))
+    reads-marked n p (again i z e f) =
+        rw (e, f) (reads-old (ap not (sym (a .tells last (endingIn b (k + 1)) (h .used) n (h .holds) (rw p at i)) ∙ rw p at z)))
+    reads-marked n p (fresh i z e f) = rw (e, f, p) (reads-new n (rw p at i) (rw p at z))
+
+  -- where the window has every rank, a palindrome is met for the first time exactly if it is new
+  pub met-new : {k row : ℕ} {first : Bool} {old marks : Word} → ReadOn b 0 k old row first marks → sizeIn b ≤ 8 * length old → first ≡ newAt b k
+  met-new {k} {row} {first} {old} a m = a .first-is ∙ go (decLt row 2)
+    where
+      go : Dec (row < 2) → (newAt b k && inWindow 0 (rankIn b row) old) ≡ newAt b k
+      go (yes h) = rw (root-old k (a .reads .ends) h) refl
+      go (no h) = let i = window-is 0 (rankIn b row) old (omega arith) (omega (arith, rank-below row (a .reads .ends .used) (omega arith), m)) in rw i (and-true (newAt b k))

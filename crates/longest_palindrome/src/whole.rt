@@ -1,5 +1,5 @@
 // The longest palindrome of the record: its length and its leftmost place.
-use partners::table;
+use partners::of_letters;
 use spelling::spelling_length;
 use store::rows::Row;
 use walk::frame::frame_of;
@@ -23,7 +23,7 @@ pub fn longest(b: &[u8]) -> LongestAnswer
     ensures place { λ r. ⌜ r .place ≡ longestPlace (ruleOf (now (b .entry))) (lettersIn (now (b .entry))) ⌝ }
 {
     let f = frame_of(b);
-    let partners = table(f.reading);
+    let partners = of_letters(f.reading);
     let mut row = Row::EMPTY;
     let mut length = 0;
     let mut place = 0;

@@ -1,5 +1,5 @@
 -- When a call on a good store is refused, and that it is never refused with 3. Assumes nothing.
-use Prim.Native.Nat.{ℕ, zero, suc, _*_, _<_, _≤_}
+use Prim.Native.Nat.{ℕ, zero, suc, _<_, _≤_}
 use mathlib.Core.Path.{_≡_, refl, ap}
 use mathlib.Core.Bool.{Bool, true, false, not, _&&_}
 use mathlib.Core.List.{List, [], _∷_}
@@ -12,7 +12,7 @@ use Rattle.palindromes.specs.Reading.{Reading}
 use Rattle.palindromes.specs.End.{End}
 use Rattle.palindromes.specs.Node.{spellingOf}
 use Rattle.palindromes.specs.Bed.{isIdentifier, listing}
-use Rattle.palindromes.specs.Refusal.{Question, theLength, theCount, theLongest, theLongestLength, theLongestAt, theLetter, theRow, spell, find, list, View, questionFaults, Call, opening, add, remove, turn, ask, fault, firstFault, isFree, spellingLength, storeSize, faults, refusal}
+use Rattle.palindromes.specs.Refusal.{Question, theLength, theCount, theLongest, theLongestLength, theLongestAt, theLetter, theRow, spell, find, list, View, questionFaults, Call, opening, add, remove, turn, ask, fault, firstFault, isFree, spellingLength, storeSize, scratchSize, faults, refusal}
 use Rattle.palindromes.proofs.Tests.{both-true, false-not-true, non-empty-is}
 use Rattle.store.specs.Layout.{capacityIn, usedIn, lettersIn}
 use Rattle.store.specs.Good.{ruleOf, nodeIn}
@@ -174,19 +174,19 @@ module _ (b : Word) (l : Lent) where
   unfolding refusal faults questionFaults viewIn firstFault fault
   list-name name h = rw h
 
-  pub list-scratch : (name : Word) → isIdentifier name ≡ true → length (l .scratch) < 4 * length (lettersIn b) → refusal (ruleOf b) (viewIn b l) (ask (list name)) ≡ 9
+  pub list-scratch : (name : Word) → isIdentifier name ≡ true → length (l .scratch) < scratchSize (length (lettersIn b)) → refusal (ruleOf b) (viewIn b l) (ask (list name)) ≡ 9
   unfolding refusal faults questionFaults viewIn firstFault fault
-  list-scratch name h k = rw (h, lt-ltb (length (l .scratch)) (4 * length (lettersIn b)) k)
+  list-scratch name h k = rw (h, lt-ltb (length (l .scratch)) (scratchSize (length (lettersIn b))) k)
 
-  pub list-out : (name : Word) → isIdentifier name ≡ true → 4 * length (lettersIn b) ≤ length (l .scratch) → length (l .out) < length (listing (ruleOf b) name (lettersIn b))
+  pub list-out : (name : Word) → isIdentifier name ≡ true → scratchSize (length (lettersIn b)) ≤ length (l .scratch) → length (l .out) < length (listing (ruleOf b) name (lettersIn b))
       → refusal (ruleOf b) (viewIn b l) (ask (list name)) ≡ 9
   unfolding refusal faults questionFaults viewIn firstFault fault
-  list-out name h k m = rw (h, le-ltb (length (l .scratch)) (4 * length (lettersIn b)) k, lt-ltb (length (l .out)) (length (listing (ruleOf b) name (lettersIn b))) m)
+  list-out name h k m = rw (h, le-ltb (length (l .scratch)) (scratchSize (length (lettersIn b))) k, lt-ltb (length (l .out)) (length (listing (ruleOf b) name (lettersIn b))) m)
 
-  pub list-accepted : (name : Word) → isIdentifier name ≡ true → 4 * length (lettersIn b) ≤ length (l .scratch) → length (listing (ruleOf b) name (lettersIn b)) ≤ length (l .out)
+  pub list-accepted : (name : Word) → isIdentifier name ≡ true → scratchSize (length (lettersIn b)) ≤ length (l .scratch) → length (listing (ruleOf b) name (lettersIn b)) ≤ length (l .out)
       → refusal (ruleOf b) (viewIn b l) (ask (list name)) ≡ 0
   unfolding refusal faults questionFaults viewIn firstFault fault
-  list-accepted name h k m = rw (h, le-ltb (length (l .scratch)) (4 * length (lettersIn b)) k, le-ltb (length (l .out)) (length (listing (ruleOf b) name (lettersIn b))) m)
+  list-accepted name h k m = rw (h, le-ltb (length (l .scratch)) (scratchSize (length (lettersIn b))) k, le-ltb (length (l .out)) (length (listing (ruleOf b) name (lettersIn b))) m)
 
   pub opening-capacity : (way : Reading) (k : ℕ) → (leb 1 k && leb k 1024) ≡ false → refusal (ruleOf b) (viewIn b l) (opening way k) ≡ 1
   unfolding refusal faults questionFaults viewIn firstFault fault

@@ -1,5 +1,5 @@
 -- DEFINITIONS. The outcome of each store call: its reply, and what every lent byte holds after it. Nothing here is proved.
-use Prim.Native.Nat.{ℕ, zero, suc, _*_}
+use Prim.Native.Nat.{ℕ, zero, suc}
 use mathlib.Core.Path.{_≡_}
 use mathlib.Core.Bool.{true, false, cond}
 use mathlib.Core.Option.{none, some}
@@ -13,7 +13,7 @@ use Rattle.palindromes.specs.Record.{palindromes, count, longestLength, longest
 use Rattle.palindromes.specs.End.{letterAt}
 use Rattle.palindromes.specs.Node.{spelt, lengthOf, linkOf, innerOf, spellingOf}
 use Rattle.palindromes.specs.Bed.{listing}
-use Rattle.palindromes.specs.Refusal.{Question, theLength, theCount, theLongest, theLongestLength, theLongestAt, theLetter, theRow, spell, find, list, Call, opening, add, remove, turn, ask, View, refusal}
+use Rattle.palindromes.specs.Refusal.{Question, theLength, theCount, theLongest, theLongestLength, theLongestAt, theLetter, theRow, spell, find, list, Call, opening, add, remove, turn, ask, View, scratchSize, refusal}
 use Rattle.palindromes.specs.SearchSteps.{reportedSteps}
 use Rattle.store.specs.Layout.{capacityIn, readingIn, usedIn, lettersIn}
 use Rattle.store.specs.Good.{ruleOf, nodeIn, Good}
@@ -86,7 +86,7 @@ lentAfter (theRow r) b l = l
 lentAfter (spell r) b l = record { scratch = l .scratch; out = written (spellingOf (nodeIn b r)) (l .out) }
 lentAfter (find p) b l = l
 lentAfter (list name) b l =
-    record { scratch = written (replicate (4 * length (lettersIn b)) 0) (l .scratch); out = written (listing (ruleOf b) name (lettersIn b)) (l .out) }
+    record { scratch = written (replicate (scratchSize (length (lettersIn b))) 0) (l .scratch); out = written (listing (ruleOf b) name (lettersIn b)) (l .out) }
 
 -- an accepted call. 01 "Questions and changes"; a question changes no byte of the store
 unfoldable pub acceptedOutcome : Call → Word → Lent → Outcome

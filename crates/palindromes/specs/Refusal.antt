@@ -1,6 +1,6 @@
 -- DEFINITIONS. The refusal number of each call of document 01, in the order of its table "Numbers by the place where they are checked".
 -- Nothing here is proved.
-use Prim.Native.Nat.{ℕ, zero, suc, _+_, _*_}
+use Prim.Native.Nat.{ℕ, zero, suc, _+_, _*_, _/_}
 use mathlib.Core.Bool.{Bool, true, false, _&&_, not}
 use mathlib.Core.List.{List, [], _∷_}
 use mathlib.Core.Option.{Option, none, some}
@@ -45,6 +45,10 @@ pub record View : Type 0 where
 unfoldable pub storeSize : ℕ → ℕ
 storeSize capacity = 48 * capacity + 256
 
+-- 02 (ix) "scratch of one bit a letter, rounded up to whole bytes"
+unfoldable pub scratchSize : ℕ → ℕ
+scratchSize letters = (letters + 7) / 8
+
 -- a row of the table: its number where it applies, and 0 where it does not
 unfoldable pub fault : ℕ → Bool → ℕ
 fault number true = number
@@ -79,7 +83,7 @@ questionFaults σ v (spell r) = fault 7 (isFree (v .row r)) ∷ fault 9 (ltb (v 
 questionFaults σ v (find p) = fault 8 (isEmpty p) ∷ fault 4 (not (allLetters p)) ∷ []
 questionFaults σ v (list name) =
     fault 10 (not (isIdentifier name))
-    ∷ fault 9 (ltb (v .scratch) (4 * length (v .letters)))
+    ∷ fault 9 (ltb (v .scratch) (scratchSize (length (v .letters))))
     ∷ fault 9 (ltb (v .out) (length (listing σ name (v .letters))))
     ∷ []
 

@@ -1,8 +1,8 @@
-// The partners of letters: one table of all byte values for inverted records, and a table for either
-// reading.
+// The partners of letters: one table of all byte values for inverted records, and for either reading a
+// table of all byte values or of the four letters.
 ghost use mathlib.Core.Path.{_≡_};
 ghost use lib.ListN.{getD};
-ghost use Rattle.partners.specs.Table.{PartnersIn};
+ghost use Rattle.partners.specs.Table.{PartnersIn, placeOf, LetterPartners};
 
 // The partner of each byte in an inverted record: A with T, C with G, and every other byte itself.
 const PARTNERS: [u8; 256] = [
@@ -284,4 +284,23 @@ pub fn partner_in(partners: &[u8; 256], c: u8) -> u8
     ensures { λ r. ⌜ r ≡ getD (now (partners .entry)) c 0 ⌝ }
 {
     partners[c as usize]
+}
+
+// The partners of the four letters in a reading, each at its letter's place: for whoever reads letters
+// alone, where the table of all bytes would be held for four of them.
+pub fn of_letters(reading: usize) -> [u8; 4]
+    ensures { λ r. ⌜ LetterPartners reading r ⌝ }
+{
+    if reading == 1 {
+        return [b'T', b'G', b'A', b'C'];
+    }
+    [b'A', b'C', b'T', b'G']
+}
+
+// The partner of a letter, by a table of the letters' partners. Two bits of a letter's byte tell the
+// four apart.
+pub fn of_letter(partners: &[u8; 4], c: u8) -> u8
+    ensures { λ r. ⌜ r ≡ getD (now (partners .entry)) (placeOf c) 0 ⌝ }
+{
+    partners[(c / 2 % 4) as usize]
 }

@@ -53,7 +53,7 @@ read-more : (t : Word) (k : ℕ) → k < length t → take (k + 1) t ≡ take k 
 read-more t k h = rw (add-one, take-suc t k 0)
 
 -- what is read stands in the whole
-read-stands : (t : Word) (k : ℕ) → Stands (take k t) t
+pub read-stands : (t : Word) (k : ℕ) → Stands (take k t) t
 read-stands t k = prefix-stands (record { after = drop k t; whole = take-append-drop k t })
 
 module _ {b : Word} (g : Good b) where

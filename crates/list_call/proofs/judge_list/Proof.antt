@@ -1,10 +1,8 @@
 -- `list_call::judge_list` is the verdict on listing. Assumes nothing.
 use mathlib.Core.Path.{refl, sym, _∙_}
-use native.Mathlib.Omega.{arith}
 use borrow.Author.Needs.{needs}
 use borrow.Author.Tests.{not-true, not-false}
 use Rattle.outcome.specs.Verdict.{damaged}
-use Rattle.outcome.proofs.Fits.{few}
 use Rattle.audit_fixed.proofs.Decided.{holds, fails}
 use Rattle.list_call.proofs.Listing.{bad-name, scratch-short, out-short, can-list}
 use Rattle.list_call.proofs.judge_list.Statement.{statement}
@@ -18,19 +16,14 @@ returns-2 c =
     let g = c .before .before .before .is-good in
     bad-name _ (holds _ (g .result) (g .ensures) (c .before .before .if1 .left)) _ _ _ (sym (c .before .is-identifier .ensures) ∙ not-true _ (c .if2 .taken))
 
-length-requires : tie.Need-length-requires
-length-requires c κs = let g = c .before .before .before .is-good in holds _ (g .result) (g .ensures) (c .before .before .if1 .left)
-
-mul-if3 : tie.Need-mul-if3
-mul-if3 c =
-    let g = c .before .before .before .before .is-good in
-    omega (arith, c .length .ensures, few (holds _ (g .result) (g .ensures) (c .before .before .before .if1 .left)))
+scratch-size-requires : tie.Need-scratch-size-requires
+scratch-size-requires c κs = let g = c .before .before .before .is-good in holds _ (g .result) (g .ensures) (c .before .before .if1 .left)
 
 returns-3 : tie.Need-returns-3
 returns-3 c =
     let g = c .before .before .before .before .before .is-good in
     scratch-short _ (holds _ (g .result) (g .ensures) (c .before .before .before .before .if1 .left)) _ _ _
-    (sym (c .before .before .before .is-identifier .ensures) ∙ not-false _ (c .before .before .if2 .left)) (c .before .length .ensures) (c .if3 .taken)
+    (sym (c .before .before .before .is-identifier .ensures) ∙ not-false _ (c .before .before .if2 .left)) (c .before .scratch-size .ensures) (c .if3 .taken)
 
 listing-length-requires : tie.Need-listing-length-requires
 listing-length-requires c κs =
@@ -42,7 +35,7 @@ returns-4 c =
     let s = c .before .before in
     let g = s .before .before .before .before .before .is-good in
     out-short _ (holds _ (g .result) (g .ensures) (s .before .before .before .before .if1 .left)) _ _ _
-    (sym (s .before .before .before .is-identifier .ensures) ∙ not-false _ (s .before .before .if2 .left)) (s .before .length .ensures) (s .if3 .left)
+    (sym (s .before .before .before .is-identifier .ensures) ∙ not-false _ (s .before .before .if2 .left)) (s .before .scratch-size .ensures) (s .if3 .left)
     (c .before .listing-length .ensures) (c .if4 .taken)
 
 returns-5 : tie.Need-returns-5
@@ -50,10 +43,10 @@ returns-5 c =
     let s = c .before .before in
     let g = s .before .before .before .before .before .is-good in
     can-list _ (holds _ (g .result) (g .ensures) (s .before .before .before .before .if1 .left)) _ _ _
-    (sym (s .before .before .before .is-identifier .ensures) ∙ not-false _ (s .before .before .if2 .left)) (s .before .length .ensures) (s .if3 .left)
+    (sym (s .before .before .before .is-identifier .ensures) ∙ not-false _ (s .before .before .if2 .left)) (s .before .scratch-size .ensures) (s .if3 .left)
     (c .before .listing-length .ensures) (c .if4 .left)
 
 pub judge-list-spec : {M : Type 1} → statement M
 judge-list-spec =
     tie.close
-    (tie.spec (λ c κs. search needs) returns (λ c κs. search needs) returns-2 length-requires mul-if3 returns-3 listing-length-requires returns-4 returns-5)
+    (tie.spec (λ c κs. search needs) returns (λ c κs. search needs) returns-2 scratch-size-requires returns-3 listing-length-requires returns-4 returns-5)

@@ -1,7 +1,5 @@
 -- `list_call::list_repeats` keeps its promise. Assumes nothing.
-use native.Mathlib.Omega.{arith}
 use borrow.Author.Needs.{needs}
-use Rattle.store.proofs.Sizes.{letters-length}
 use Rattle.outcome.proofs.Promises.{by-verdict}
 use Rattle.list_call.proofs.Listing.{listable, listing-packs, listed-out}
 use Rattle.list_call.proofs.list_repeats.Statement.{statement}
@@ -13,7 +11,7 @@ returns c = by-verdict _ _ _ _ (c .before .before .judge-list .ensures) (c .befo
 list-requires : tie.Need-list-requires
 list-requires c κs =
     let a = listable _ _ _ _ _ (c .before .before .before .judge-list .ensures) (c .before .before .if1 .left) in
-    (a .good, (a .named, (omega (arith, letters-length (a .good .sized), a .marks), a .room)))
+    (a .good, (a .named, (a .marks, a .room)))
 
 pack-requires : tie.Need-pack-requires
 pack-requires c κs =

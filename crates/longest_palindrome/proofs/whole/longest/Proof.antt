@@ -51,7 +51,7 @@ next-requires : tie.Need-next-requires Inv-loop μ-loop
 next-requires c κs =
     let t = c .before .before .before in
     let f = t .before .before .frame-of .ensures in
-    (from-loop t .pre, (f, (t .before .table .ensures, (omega (arith, f .size-is), t .loop .inv .ends))))
+    (from-loop t .pre, (f, (t .before .of-letters .ensures, (omega (arith, f .size-is), t .loop .inv .ends))))
 
 sub-place : tie.Need-sub-place Inv-loop μ-loop
 sub-place c =

@@ -2,11 +2,14 @@
 use Prim.Native.Nat.{ℕ, _+_, _<_}
 use native.Mathlib.Omega.{arith}
 use mathlib.Core.Path.{_≡_, ap, _∙_, subst₂}
+use mathlib.Core.Bool.{true}
 use lib.ListN.{getD}
 use borrow.Author.Needs.{needs}
-use Rattle.palindromes.specs.Word.{Word}
-use Rattle.store.specs.Layout.{sizeIn}
+use Rattle.palindromes.specs.Word.{Word, isLetter}
+use Rattle.palindromes.proofs.Letters.{letter-of}
+use Rattle.store.specs.Layout.{sizeIn, lettersIn}
 use Rattle.store.specs.Good.{Good}
+use Rattle.store.proofs.Sizes.{letters-length}
 use Rattle.store.specs.declared.letters.Side.the-variants.{Right}
 use Rattle.walk.specs.Frame.{Frames, standingIn, seenIn, partnerIn}
 use Rattle.walk.specs.Walk.{Stepped}
@@ -30,9 +33,15 @@ standing-requires c κs =
     let w = framed-within (s .pre .1 .0) (s .pre .0 .sized) (s .args .k + 1) (omega arith) in
     (w .letters, omega (arith, w .read))
 
--- the letter that must face the next one
-wanted : (c : tie.After-partner-in) → c .partner-in .result ≡ partnerIn (c .before .before .before .args .f) (c .before .standing .result)
-wanted c = c .partner-in .ensures ∙ c .before .before .before .pre .1 .1 .0 (c .before .standing .result) (search needs)
+-- the letter that stands there, and the one that must face it
+letter : (c : tie.After-of-letter) → isLetter (c .before .standing .result) ≡ true
+letter c =
+    let s = c .before .before .before in
+    let e = c .before .standing .ensures ∙ ap (λ (t : Word). getD t (s .args .k) 0) (framed-standing (s .pre .1 .0)) in
+    rw e (letter-of (lettersIn (s .args .b .now)) (s .args .k) (omega (arith, letters-length (s .pre .0 .sized), s .pre .1 .1 .1 .0)) (s .pre .0 .letters))
+
+wanted : (c : tie.After-of-letter) → c .of-letter .result ≡ partnerIn (c .before .before .before .args .f) (c .before .standing .result)
+wanted c = c .of-letter .ensures ∙ c .before .before .before .pre .1 .1 .0 (c .before .standing .result) (letter c)
 
 step-requires : tie.Need-step-requires
 step-requires c κs =

@@ -1,0 +1,2 @@
+-- laws of bits
+pub mod Bits
