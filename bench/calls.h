@@ -11,7 +11,7 @@
 
 enum { CAPACITY_MOST = 1024, STORE_MOST = 48 * CAPACITY_MOST + 256, OUT_MOST = 45 * CAPACITY_MOST };
 /* The list needs a bit of scratch for each letter, and is lent four bytes: an earlier library needs as many, and is run on the same
- * sittings beside today's (beside.c). Today's leaves what it does not need, and takes no longer. */
+ * sittings beside today's (beside.c). Today's leaves what it does not need. */
 enum { SCRATCH_MOST = 4 * CAPACITY_MOST, SCRATCH_PAINT = 0xa5, PIECE_MOST = CAPACITY_MOST + 2 };
 
 /* The calls in the order of their table, and last the spelling call once more beside a twin that loops instead of

@@ -101,7 +101,7 @@ static void scratches(const struct sitting *s)
     }
 }
 
-/* Lists of few letters, and of as many that the ranks fill the windows by which their length is found out, and a little more or
+/* Lists of few letters, and of so many that the ranks fill the windows by which their length is found out, and a little more or
  * less. */
 static void lists(int word, enum reading reading)
 {

@@ -159,7 +159,7 @@ static void say_find(const struct line *l, uint64_t answer)
     if (pair) printf(", pair %u%s", pair, pair < 65535 ? " breaks" : " or later breaks");
 }
 
-/* It is lent just the scratch that the letters now in the record need. */
+/* The list is lent just the scratch that the letters now in the record need. */
 static uint64_t make_list(const struct line *l)
 {
     static uint8_t scratch[MIRROR_LIST_SCRATCH(MOST)];

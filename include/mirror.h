@@ -76,9 +76,9 @@ uint64_t mirror_spell(const uint8_t *store, size_t length, uint64_t row, uint8_t
  * any later one. In an inverted record a letter must be the partner of the one that faces it; the middle letter of an odd piece
  * faces itself and is the last pair. So 0 with no flag says that the piece reads alike and does not stand in the record. */
 uint64_t mirror_find(const uint8_t *store, size_t length, const uint8_t *piece, size_t piece_length);
-/* The list of the repeats as BED lines, and how many bytes it has as the first number. It takes scratch of one bit for each
- * letter now in the record, rounded up to whole bytes, where no repeat stands too. These bytes may hold anything before and are
- * zeros afterwards; bytes beyond them stay, and so does output beyond the list. */
+/* The list of the repeats as BED lines, and how many bytes it has as the first number. It takes the scratch of
+ * MIRROR_LIST_SCRATCH for the letters now in the record, where no repeat stands too; these bytes may hold anything before and
+ * are zeros afterwards. Bytes beyond them stay, and so does output beyond the list. */
 uint64_t mirror_list(const uint8_t *store, size_t length, const uint8_t *identifier, size_t identifier_length,
                      uint8_t *scratch, size_t scratch_length, uint8_t *out, size_t out_length);
 /* Reads a FASTA text of any length; needs no store. The identifier stands behind the first `>`, and its length is the

@@ -1,6 +1,6 @@
 /* The scratch of a list, 02 (ix), through the C boundary: one bit for each letter, rounded up to whole bytes. Records of both
  * readings have every number of letters from 0 to 40, from 342 to 347, from 686 to 691 (a library may count the lines of 344
- * repeats at a time) and from 1,015 to 1,024, and about as many repeats, few or none. Each is listed with every scratch size
+ * repeats at a time) and from 1,014 to 1,024, and about as many repeats, few or none. Each is listed with every scratch size
  * about the need, of short records from 0 on, and before the call the scratch holds one of the 256 byte values: each of them
  * with each size of each short record, and in turn with those of long ones. A byte too few is 9 and leaves every byte; else the
  * lines are those that trying every stretch gives, the bytes needed are zeros, and every byte beyond stays. The buffers end at
@@ -127,7 +127,7 @@ static void short_records(int kind)
 /* one record that grows at the right; each of its lengths goes on where the one before left off among the byte values */
 static void long_records(int kind)
 {
-    static const size_t from_to[][2] = {{342, 347}, {686, 691}, {1015, 1024}};
+    static const size_t from_to[][2] = {{342, 347}, {686, 691}, {1014, 1024}}; /* 23 lengths: over the eight words each meets every byte value */
     static unsigned next;
     guard_at(kind % 2 ? GUARD_BEFORE : GUARD_AFTER);
     make_record(from_to[0][0], MOST, kind % WAYS);

@@ -1,7 +1,6 @@
--- DEFINITIONS. The bits of a buffer, and what marking a number does to them. Nothing here is proved.
-use Prim.Native.Nat.{ℕ, _+_, _-_, _*_, _/_, _%_, _^_}
-use mathlib.Core.Path.{_≡_}
-use mathlib.Core.Bool.{Bool, true, false, _&&_}
+-- DEFINITIONS. The bits of a buffer, and the window of numbers that they stand for. Nothing here is proved.
+use Prim.Native.Nat.{ℕ, _+_, _*_, _/_, _%_, _^_}
+use mathlib.Core.Bool.{Bool, _&&_}
 use lib.Bits.{bitOr}
 use lib.Dec.{eqb, leb, ltb}
 use lib.ListN.{length, getD, set}
@@ -18,9 +17,3 @@ withBit bits i = set bits (i / 8) (bitOr (getD bits (i / 8) 0) (2 ^ (i % 8)))
 -- the window has the number i: its first is `from`, and it has as many as the buffer has bits
 unfoldable pub inWindow : ℕ → ℕ → Word → Bool
 inWindow from i bits = leb from i && ltb i (from + 8 * length bits)
-
--- what marking the number i answers, whether it had no mark, and leaves
-pub data Marked (from i : ℕ) (old : Word) : Bool → Word → Type 0 where
-  beyond : {first : Bool} {new : Word} → inWindow from i old ≡ false → first ≡ false → new ≡ old → Marked from i old first new
-  again : {first : Bool} {new : Word} → inWindow from i old ≡ true → bitAt old (i - from) ≡ true → first ≡ false → new ≡ old → Marked from i old first new
-  fresh : {first : Bool} {new : Word} → inWindow from i old ≡ true → bitAt old (i - from) ≡ false → first ≡ true → new ≡ withBit old (i - from) → Marked from i old first new

@@ -20,7 +20,7 @@ fn blank() -> [u8; 49408]
 }
 
 // Writes the list of the record that the letters make at the front of `out`, and answers how many
-// bytes it has.
+// bytes it has. The scratch has a bit for each of 1,024 letters.
 pub fn list_letters(name: &[u8], letters: &[u8], out: &mut [u8]) -> usize
     requires { ⌜ isIdentifier (now name) ≡ true ⌝ }
     requires { ⌜ (allLetters (now letters) ≡ true) × (length (now letters) ≤ 1024) ⌝ }

@@ -29,6 +29,14 @@ use Rattle.listing.specs.Reading.{newAt}
 abbrev pub listed : Word → Word → ℕ → Word
 listed b name k = listing (ruleOf b) name (take k (lettersIn b))
 
+-- a palindrome's line begins as many letters before its end as its row spells
+module _ {b : Word} {k row n : ℕ} (h : Holds b k row) (e : n ≡ length (spellingOf (nodeIn b row))) where
+  pub line-is : (name : Word) → bedLine name (k - n) k ≡ lineIn b name k
+  line-is name = ap (λ (m : ℕ). bedLine name (k - m) k) (e ∙ ending-length h)
+
+  pub line-starts : n ≤ k
+  line-starts = omega (arith, e ∙ ending-length h, ending-most b k)
+
 module _ {b : Word} (g : Good b) (name : Word) where
   -- before the first letter it is empty
   pub listed-none : listed b name 0 ≡ []
@@ -58,14 +66,6 @@ module _ {b : Word} (g : Good b) (name : Word) where
         go : (t : Bool) → newAt b k ≡ t → length (listed b name (k + 1)) ≡ length (listed b name k) + cond t (length (lineIn b name (k + 1))) 0
         go true e = ap length (listed-new e) ∙ length-append (listed b name k) (lineIn b name (k + 1))
         go false e = ap length (listed-old e) ∙ sym (add-zero (length (listed b name k)))
-
-    -- its line begins as many letters before its end as its row spells
-    module _ {row n : ℕ} (h : Holds b (k + 1) row) (e : n ≡ length (spellingOf (nodeIn b row))) where
-      pub line-is : bedLine name (k + 1 - n) (k + 1) ≡ lineIn b name (k + 1)
-      line-is = ap (λ (m : ℕ). bedLine name (k + 1 - m) (k + 1)) (e ∙ ending-length h)
-
-      pub line-starts : n ≤ k + 1
-      line-starts = omega (arith, e ∙ ending-length h, ending-most b (k + 1))
 
     -- the numbers of a line are small, and so is the name
     pub line-small : (n : ℕ) → isIdentifier name ≡ true → (length name ≤ 32) × (k + 1 - n < 65536) × (k + 1 < 65536)

@@ -6,7 +6,7 @@ use native.Mathlib.Omega.{arith}
 use native.Mathlib.Numerals.{add-one}
 use native.Mathlib.Decide.{decLt}
 use mathlib.Core.Path.{_≡_, refl, sym, ap, _∙_, subst}
-use mathlib.Core.Bool.{Bool, true, false, _&&_, not, or-false, and-false, and-true}
+use mathlib.Core.Bool.{Bool, true, false, cond, _&&_, not, or-false, and-false, and-true}
 use mathlib.Core.Logic.{_≢_, _⊎_, inl, inr, ⊎-elim}
 use mathlib.Core.List.{[]}
 use lib.ListN.{length, getD, take}
@@ -20,7 +20,7 @@ use Rattle.palindromes.proofs.Words.{same-or-not, suffix-stands, stands-of-empt
 use Rattle.palindromes.proofs.Longest.{longest-suffix}
 use Rattle.palindromes.proofs.Places.{stands-true, stands-is, stands-empty}
 use Rattle.palindromes.proofs.Answers.{prefix-met}
-use Rattle.bitmap.specs.Bitmap.{bitAt, withBit, inWindow, Marked, beyond, again, fresh}
+use Rattle.bitmap.specs.Bitmap.{bitAt, withBit, inWindow}
 use Rattle.bitmap.proofs.Bits.{bit-same, bit-other, bit-none, with-length, window-true, window-is}
 use Rattle.eertree.specs.Covers.{NodeOf}
 use Rattle.eertree.proofs.Rows.{word-row, row-high}
@@ -41,19 +41,19 @@ unfolding scratchSize
 scratch-bits n = (omega arith, omega arith)
 
 module _ {b : Word} (g : Good b) where
-  -- a row in use has its mark within the first letters' number of marks
-  pub rank-below : (r : ℕ) → usedIn b r ≡ true → 2 ≤ r → rankIn b r < sizeIn b
+  -- a row in use has a rank below the number of letters
+  rank-below : (r : ℕ) → usedIn b r ≡ true → 2 ≤ r → rankIn b r < sizeIn b
   rank-below r u l = omega (arith, used-rank b r l u, count-most g)
 
   -- and no other row has the same
-  pub rank-only : (r q : ℕ) → usedIn b r ≡ true → usedIn b q ≡ true → 2 ≤ r → 2 ≤ q → rankIn b r ≡ rankIn b q → r ≡ q
+  rank-only : (r q : ℕ) → usedIn b r ≡ true → usedIn b q ≡ true → 2 ≤ r → 2 ≤ q → rankIn b r ≡ rankIn b q → r ≡ q
   rank-only r q u v l m e = cc (g .rank r l (used-below b r u) .back, g .rank q m (used-below b q v) .back)
-
-  -- ---- the first letter
 
   -- a mark lies in the bytes that the letters' number of bits take
   mark-byte : (r from : ℕ) → usedIn b r ≡ true → 2 ≤ r → (rankIn b r - from) / 8 < scratchSize (sizeIn b)
   mark-byte r from u l = omega (arith, rank-below r u l, scratch-bits (sizeIn b) .0)
+
+  -- ---- the first letter
 
   -- before it no palindrome stands, and nothing is marked
   pub reads-first : (from : ℕ) (marks : Word) → ((i : ℕ) → i < scratchSize (sizeIn b) → i < length marks → getD marks i 0 ≡ 0) → ReadTo b from 0 1 marks
@@ -153,11 +153,15 @@ module _ {b : Word} (g : Good b) where
                 bit-other marks at (rankIn b r - from) fits (λ o. p (omega (arith, x .0, window-true from (rankIn b last) marks i .0))) ∙ a .tells r w u m e y ∙ met-other r w u e f
 
     -- the row's rank marked, whether that is in the window or not
-    pub reads-marked : 2 ≤ last → {rank : ℕ} {first : Bool} {new : Word} → rank ≡ rankIn b last → Marked from rank marks first new → ReadOn b from k marks last first new
-    reads-marked n p (beyond o e f) = rw (e, f) (reads-beyond (rw p at o))
-    reads-marked n p (again i z e f) =
-        rw (e, f) (reads-old (ap not (sym (a .tells last (endingIn b (k + 1)) (h .used) n (h .holds) (rw p at i)) ∙ rw p at z)))
-    reads-marked n p (fresh i z e f) = rw (e, f, p) (reads-new n (rw p at i) (rw p at z))
+    pub reads-marked : 2 ≤ last → {rank : ℕ} {first : Bool} {new : Word} → rank ≡ rankIn b last
+        → first ≡ (inWindow from rank marks && not (bitAt marks (rank - from))) → new ≡ cond first (withBit marks (rank - from)) marks → ReadOn b from k marks last first new
+    reads-marked n p e f = rw (f, e, p) (go (inWindow from (rankIn b last) marks) (bitAt marks (rankIn b last - from)) refl refl)
+      where
+        go : (has set : Bool) → inWindow from (rankIn b last) marks ≡ has → bitAt marks (rankIn b last - from) ≡ set
+            → ReadOn b from k marks last (has && not set) (cond (has && not set) (withBit marks (rankIn b last - from)) marks)
+        go false set i z = reads-beyond i
+        go true true i z = reads-old (ap not (sym (a .tells last (endingIn b (k + 1)) (h .used) n (h .holds) i) ∙ z))
+        go true false i z = reads-new n i z
 
   -- where the window has every rank, a palindrome is met for the first time exactly if it is new
   pub met-new : {k row : ℕ} {first : Bool} {old marks : Word} → ReadOn b 0 k old row first marks → sizeIn b ≤ 8 * length old → first ≡ newAt b k

@@ -14,7 +14,7 @@ use Rattle.bitmap.specs.Bitmap.{withBit}
 use Rattle.store.proofs.Parts.{sets-append}
 
 -- an element that is stored over later need not have been stored
-pub sets-over : (l : Word) (i x at : ℕ) (w : Word) → at ≤ i → i < at + length w → sets (set l i x) at w ≡ sets l at w
+sets-over : (l : Word) (i x at : ℕ) (w : Word) → at ≤ i → i < at + length w → sets (set l i x) at w ≡ sets l at w
 sets-over l i x at [] a h = absurd (omega arith)
 sets-over l i x at (y ∷ w) a h = go (decLt at i) λ k. sets-over (set l at y) i x (suc at) w k (omega arith)
   where

@@ -43,6 +43,12 @@ window-adds true from rank old n = go (decLt rank from) (decLt rank (from + 8 * 
     go (no h) (yes k) = rw (window-is from rank old (omega arith) k, le-ltb rank from (omega arith), lt-ltb rank (from + 8 * length old) k) (omega arith)
     go (no h) (no k) = rw (window-not from rank old λ x y. k y, le-ltb rank from (omega arith), le-ltb rank (from + 8 * length old) (omega arith)) refl
 
+-- a part is no longer than the whole
+part : (new low : Bool) (n : ℕ) → cond (new && low) n 0 ≤ cond new n 0
+part false low n = omega arith
+part true false n = omega arith
+part true true n = omega arith
+
 module _ (b name : Word) where
   below-more : (t k : ℕ) → lengthBelow b name t (k + 1) ≡ lengthBelow b name t k + cond (newAt b k && ltb (rankAt b (k + 1)) t) (length (lineIn b name (k + 1))) 0
   unfolding lengthBelow
@@ -78,16 +84,11 @@ module _ {b : Word} (g : Good b) (name : Word) where
   -- ---- all windows
 
   -- the lines below a rank are no longer than all
-  most : (new low : Bool) (n : ℕ) → cond (new && low) n 0 ≤ cond new n 0
-  most false low n = omega arith
-  most true false n = omega arith
-  most true true n = omega arith
-
   below-part : (t k : ℕ) → k ≤ sizeIn b → lengthBelow b name t k ≤ length (listed b name k)
   unfolding lengthBelow
   below-part t zero h = omega arith
   below-part t (suc k) h =
-      let m = most (newAt b k) (ltb (rankAt b (k + 1)) t) (length (lineIn b name (k + 1))) in
+      let m = part (newAt b k) (ltb (rankAt b (k + 1)) t) (length (lineIn b name (k + 1))) in
       omega (arith, add-one k, below-part t k (omega arith), m, listed-length g name k (omega arith), ap (λ (n : ℕ). length (listed b name n)) (add-one k))
 
   pub below-most : (t : ℕ) → isIdentifier name ≡ true → lengthBelow b name t (sizeIn b) ≤ 46080
@@ -104,8 +105,8 @@ module _ {b : Word} (g : Good b) (name : Word) where
       )
 
   -- the palindrome that ends the first letters has a row
-  ending-row : (k : ℕ) → Holds b k (rowOf b (spelt (endingIn b k)))
-  ending-row k =
+  ending-holds : (k : ℕ) → Holds b k (rowOf b (spelt (endingIn b k)))
+  ending-holds k =
       let e = longest-suffix (ruleOf b) (take k (lettersIn b)) in
       let h = row-of-node g (spelt (endingIn b k)) (e .symmetric, stands-trans (suffix-stands (e .suffix)) (read-stands (lettersIn b) k)) in
       record { used = h .0; holds = h .1 }
@@ -118,7 +119,7 @@ module _ {b : Word} (g : Good b) (name : Word) where
       row = rowOf b (spelt (endingIn b (k + 1)))
 
       holds : Holds b (k + 1) row
-      holds = ending-row (k + 1)
+      holds = ending-holds (k + 1)
 
       go : Dec (row < 2) → rankIn b row < countIn b
       go (yes l) = absurd (false-not-true (root-old g k holds l) n)

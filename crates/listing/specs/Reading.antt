@@ -13,6 +13,10 @@ use Rattle.store.specs.Layout.{sizeIn, rankIn, usedIn, lettersIn}
 use Rattle.store.specs.Good.{nodeIn}
 use Rattle.walk.specs.Replay.{endingIn, Holds}
 
+-- the longest palindrome that ends the first k + 1 letters stood nowhere before
+abbrev pub newAt : Word → ℕ → Bool
+newAt b k = not (stands (endingIn b (k + 1)) (take k (lettersIn b)))
+
 -- two buffers that differ in their first n bytes at most: whatever is stored over those, they are the same after it
 abbrev pub SameBehind : ℕ → Word → Word → Type 0
 SameBehind n old new = (w : Word) → n ≤ length w → sets new 0 w ≡ sets old 0 w
@@ -22,11 +26,7 @@ pub record ReadTo (b : Word) (from k row : ℕ) (marks : Word) : Type 0 where
   pub ends : Holds b k row
   pub tells : (r : ℕ) (w : Word) → usedIn b r ≡ true → 2 ≤ r → nodeIn b r ≡ spelt w → inWindow from (rankIn b r) marks ≡ true → bitAt marks (rankIn b r - from) ≡ stands w (take k (lettersIn b))
 
--- the longest palindrome that ends the first k + 1 letters stood nowhere before
-abbrev pub newAt : Word → ℕ → Bool
-newAt b k = not (stands (endingIn b (k + 1)) (take k (lettersIn b)))
-
--- where it is after one letter more: whether the palindrome that ends there is one of the window and stands there for the first time
+-- where the walk is after one letter more: whether the palindrome that ends there is one of the window and stands there for the first time
 pub record ReadOn (b : Word) (from k : ℕ) (old : Word) (row : ℕ) (first : Bool) (marks : Word) : Type 0 where
   pub reads : ReadTo b from (k + 1) row marks
   pub first-is : first ≡ (newAt b k && inWindow from (rankIn b row) old)

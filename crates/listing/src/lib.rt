@@ -81,8 +81,8 @@ pub fn listing_length(b: &[u8], name: &[u8]) -> usize
     total
 }
 
-// Writes the lines at the front of the buffer, with marks for all ranks that begin empty, and answers
-// the place behind them.
+// Writes the lines at the front of the buffer, with marks that begin empty and have a bit for every
+// rank, and answers the place behind them.
 fn put_lines(b: &[u8], name: &[u8], marks: &mut [u8], out: &mut [u8]) -> usize
     requires { ⌜ Good (now b) ⌝ }
     requires { ⌜ isIdentifier (now name) ≡ true ⌝ }

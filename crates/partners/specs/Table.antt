@@ -1,4 +1,4 @@
--- DEFINITIONS. A table of partners. Nothing here is proved.
+-- DEFINITIONS. Tables of partners, of all bytes and of the four letters. Nothing here is proved.
 use Prim.Native.Nat.{ℕ, _/_, _%_, _<_}
 use mathlib.Core.Path.{_≡_}
 use mathlib.Core.Bool.{true}

@@ -264,8 +264,8 @@ const PARTNERS: [u8; 256] = [
     255,
 ];
 
-// The partners of all bytes in a reading. Whoever reads or adds letters makes
-// the table once and lends it: the constant is copied to the stack wherever it is looked up.
+// The partners of all bytes in a reading. Whoever adds, spells or compares letters makes the table once
+// and lends it: the constant is copied to the stack where it is looked up at a place not known.
 pub fn table(reading: usize) -> [u8; 256]
     ensures { λ r. ⌜ PartnersIn reading r ⌝ }
 {
@@ -286,13 +286,14 @@ pub fn partner_in(partners: &[u8; 256], c: u8) -> u8
     partners[c as usize]
 }
 
-// The partners of the four letters in a reading, each at its letter's place: for whoever reads letters
-// alone, where the table of all bytes would be held for four of them.
+// The partners of the four letters in a reading, each at its letter's place: for whoever reads the
+// letters of a good store again and may not hold a table of all bytes. The constant is looked up at
+// places that the compiler knows, and is not copied.
 pub fn of_letters(reading: usize) -> [u8; 4]
     ensures { λ r. ⌜ LetterPartners reading r ⌝ }
 {
     if reading == 1 {
-        return [b'T', b'G', b'A', b'C'];
+        return [PARTNERS[65], PARTNERS[67], PARTNERS[84], PARTNERS[71]];
     }
     [b'A', b'C', b'T', b'G']
 }

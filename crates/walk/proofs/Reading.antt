@@ -9,7 +9,7 @@ use mathlib.Core.Bool.{true}
 use mathlib.Core.List.{[], _∷_, _++_}
 use lib.ListN.{length, getD, take, drop, length-take, take-append-drop}
 use lib.Seq.{take-suc}
-use Rattle.palindromes.specs.Word.{Word}
+use Rattle.palindromes.specs.Word.{Word, isLetter}
 use Rattle.palindromes.specs.Place.{Stands}
 use Rattle.palindromes.specs.Record.{longestSuffix}
 use Rattle.palindromes.specs.End.{End}
@@ -63,6 +63,10 @@ module _ {b : Word} (g : Good b) where
       let h = shows-covers (g .table) in
       record { used = h .row-one .0; holds = h .row-one .1 ∙ ap spelt (sym (suffix-of-empty (longest-suffix (ruleOf b) [] .suffix))) }
 
+  -- what is read next is a letter
+  pub read-letter : (k : ℕ) {d : ℕ} → k < sizeIn b → d ≡ getD (lettersIn b) k 0 → isLetter d ≡ true
+  read-letter k l e = rw e (letter-of (lettersIn b) k (omega (arith, letters-length (g .sized))) (g .letters))
+
   -- after one letter more it is the row that the step leads to
   module _ {k row d : ℕ} (l : k < sizeIn b) (e : d ≡ getD (lettersIn b) k 0) (a : Holds b k row) where
     more-letters : k < length (lettersIn b)
@@ -75,7 +79,7 @@ module _ {b : Word} (g : Good b) where
     good-step q (grown u n m f) =
         let h = shows-covers (g .table) in
         let w = meets-longest b h (rule-inverse (readingIn b)) (lettersIn b) k d (omega (arith, more-letters)) row n (At u) (a .used) (a .holds) m in
-        let p = step-there h (take k (lettersIn b)) d (subst (λ (x : Word). Stands x (lettersIn b)) more (read-stands (lettersIn b) (k + 1))) (rw e (letter-of (lettersIn b) k more-letters (g .letters))) u (w .0) (w .1) in
+        let p = step-there h (take k (lettersIn b)) d (subst (λ (x : Word). Stands x (lettersIn b)) more (read-stands (lettersIn b) (k + 1))) (read-letter k l e) u (w .0) (w .1) in
         record { used = rw f (p .0); holds = rw (f, more) (p .1) }
     good-step q (ended n m f) =
         let h = shows-covers (g .table) in

@@ -66,8 +66,7 @@ spelling-length-requires c κs = let m = c .before .before .before in (from-loop
 sub-line-length : tie.Need-sub-line-length Inv-loop μ-loop
 sub-line-length c =
     let m = from-length c in
-    let s = from-loop (from-meet m) in
-    line-starts (s .pre .0) (s .args .name .now) (from-meet m .loop .k) (read-one m) (m .meet .ensures .reads .ends) (c .spelling-length .ensures)
+    line-starts (m .meet .ensures .reads .ends) (c .spelling-length .ensures)
 
 line-length-requires : tie.Need-line-length-requires Inv-loop μ-loop
 line-length-requires c κs =
@@ -83,7 +82,7 @@ loop-again c =
     let i = from-meet m .loop in
     let name = s .args .name .now in
     let line = c .line-length .ensures in
-    let is = line-is (s .pre .0) name (i .k) (read-one m) (m .meet .ensures .reads .ends) (q .spelling-length .ensures) in
+    let is = line-is (m .meet .ensures .reads .ends) (q .spelling-length .ensures) name in
     record {
       read = omega (arith, m .before .before .before .if1 .taken);
       reads = m .meet .ensures .reads;

@@ -83,8 +83,7 @@ spelling-length-requires c κs = let m = c .before .before .before .before in (f
 sub-put-line : tie.Need-sub-put-line Inv-loop μ-loop
 sub-put-line c =
     let m = from-length c in
-    let s = from-loop (from-meet m) in
-    line-starts (s .pre .0) (s .args .name .now) (from-meet m .loop .k) (read-one m) (m .meet .ensures .reads .ends) (c .spelling-length .ensures)
+    line-starts (m .meet .ensures .reads .ends) (c .spelling-length .ensures)
 
 -- the line, and that it comes next
 abbrev line : tie.After-spelling-length Inv-loop μ-loop → Word
@@ -98,7 +97,7 @@ comes c =
     let s = from-loop (from-meet m) in
     let name = s .args .name .now in
     listed-new (s .pre .0) name (i .k) (read-one m) (sym (is-new m) ∙ c .before .before .if2 .taken)
-    ∙ ap (λ (w : Word). listed (s .args .b .now) name (i .k) ++ w) (sym (line-is (s .pre .0) name (i .k) (read-one m) (m .meet .ensures .reads .ends) (c .spelling-length .ensures)))
+    ∙ ap (λ (w : Word). listed (s .args .b .now) name (i .k) ++ w) (sym (line-is (m .meet .ensures .reads .ends) (c .spelling-length .ensures) name))
 
 put-line-requires : tie.Need-put-line-requires Inv-loop μ-loop
 put-line-requires c κs =

@@ -3,6 +3,7 @@ use Prim.Native.Nat.{ℕ}
 use mathlib.Core.Path.{_≡_, refl, sym, _∙_}
 use mathlib.Core.List.{[], _∷_}
 use lib.ListN.{getD}
+use borrow.Author.Needs.{needs}
 use borrow.Author.Tests.{eq-eqb, ne-eqb}
 use Rattle.palindromes.specs.Reading.{complement}
 use Rattle.palindromes.proofs.Letters.{letter-cases}
@@ -21,4 +22,4 @@ returns-2 c x h =
     letter-cases (λ (y : ℕ). getD (65 ∷ 67 ∷ 84 ∷ 71 ∷ []) (placeOf y) 0 ≡ y) refl refl refl refl x h ∙ sym (rule-plain _ (ne-eqb _ 1 (c .if1 .left)) x)
 
 pub of-letters-spec : {M : Type 1} → statement M
-of-letters-spec = tie.close (tie.spec returns returns-2)
+of-letters-spec = tie.close (tie.spec (λ c. search needs) (λ c. search needs) (λ c. search needs) (λ c. search needs) returns returns-2)

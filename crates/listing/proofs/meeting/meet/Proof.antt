@@ -33,7 +33,7 @@ returns-2 c =
     let q = marked .before in
     let t = from-rank q in
     let p = from-next t .pre in
-    reads-marked (p .0) (p .1 .1 .0) (p .1 .1 .1) (t .next .ensures) (q .before .before .if1 .left) (q .rank-of .ensures .0) (marked .mark .ensures)
+    reads-marked (p .0) (p .1 .1 .0) (p .1 .1 .1) (t .next .ensures) (q .before .before .if1 .left) (q .rank-of .ensures .0) (marked .mark .ensures .0) (marked .mark .ensures .1)
 
 pub meet-spec : {M : Type 1} → statement M
 meet-spec = tie.close (tie.spec next-requires returns rank-of-requires (λ c κs. search needs) (λ c. search needs) returns-2)

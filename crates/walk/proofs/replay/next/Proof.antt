@@ -6,17 +6,15 @@ use mathlib.Core.Bool.{true}
 use lib.ListN.{getD}
 use borrow.Author.Needs.{needs}
 use Rattle.palindromes.specs.Word.{Word, isLetter}
-use Rattle.palindromes.proofs.Letters.{letter-of}
-use Rattle.store.specs.Layout.{sizeIn, lettersIn}
+use Rattle.store.specs.Layout.{sizeIn}
 use Rattle.store.specs.Good.{Good}
-use Rattle.store.proofs.Sizes.{letters-length}
 use Rattle.store.specs.declared.letters.Side.the-variants.{Right}
 use Rattle.walk.specs.Frame.{Frames, standingIn, seenIn, partnerIn}
 use Rattle.walk.specs.Walk.{Stepped}
 use Rattle.walk.specs.Replay.{Holds}
 use Rattle.walk.specs.declared.frame.Frame.{Frame}
 use Rattle.walk.proofs.Stores.{framed-right, framed-standing, framed-rule, framed-within}
-use Rattle.walk.proofs.Reading.{good-chain, good-step}
+use Rattle.walk.proofs.Reading.{good-chain, read-letter, good-step}
 use Rattle.walk.proofs.replay.next.Statement.{statement}
 use Rattle.walk.proofs.replay.next.Tie as tie
 
@@ -37,8 +35,7 @@ standing-requires c κs =
 letter : (c : tie.After-of-letter) → isLetter (c .before .standing .result) ≡ true
 letter c =
     let s = c .before .before .before in
-    let e = c .before .standing .ensures ∙ ap (λ (t : Word). getD t (s .args .k) 0) (framed-standing (s .pre .1 .0)) in
-    rw e (letter-of (lettersIn (s .args .b .now)) (s .args .k) (omega (arith, letters-length (s .pre .0 .sized), s .pre .1 .1 .1 .0)) (s .pre .0 .letters))
+    read-letter (s .pre .0) (s .args .k) (s .pre .1 .1 .1 .0) (c .before .standing .ensures ∙ ap (λ (t : Word). getD t (s .args .k) 0) (framed-standing (s .pre .1 .0)))
 
 wanted : (c : tie.After-of-letter) → c .of-letter .result ≡ partnerIn (c .before .before .before .args .f) (c .before .standing .result)
 wanted c = c .of-letter .ensures ∙ c .before .before .before .pre .1 .1 .0 (c .before .standing .result) (letter c)
