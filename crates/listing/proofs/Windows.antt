@@ -50,6 +50,7 @@ part true false n = omega arith
 part true true n = omega arith
 
 module _ (b name : Word) where
+  -- a letter more adds its line, where that is new and of a rank below t
   below-more : (t k : ℕ) → lengthBelow b name t (k + 1) ≡ lengthBelow b name t k + cond (newAt b k && ltb (rankAt b (k + 1)) t) (length (lineIn b name (k + 1))) 0
   unfolding lengthBelow
   below-more t k = ap (lengthBelow b name t) (add-one k)
@@ -64,6 +65,7 @@ module _ {b : Word} (g : Good b) (name : Word) where
   -- ---- one letter more, in a window
 
   module _ {from k row : ℕ} {first : Bool} {old marks : Word} (a : ReadOn b from k old row first marks) where
+    -- a window that ends with `to` has the lines below `to` and not those below `from`: what the letter adds there
     within : (to : ℕ) → to ≡ from + 8 * length old
         → cond first (length (lineIn b name (k + 1))) 0 + (lengthBelow b name from (k + 1) + lengthBelow b name to k) ≡ lengthBelow b name to (k + 1) + lengthBelow b name from k
     within to h =
