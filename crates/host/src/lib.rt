@@ -3,7 +3,7 @@
 ghost use Rattle.palindromes.specs.Reading.{asPlain, asInverted};
 ghost use Rattle.palindromes.specs.End.{atLeft, atRight};
 ghost use mathlib.Core.List.{[]};
-ghost use Rattle.palindromes.specs.Refusal.{add, remove, turn, theLength, theCount, theLongest, theLongestLength, theLongestAt, theLetter, theRow, spell, find, list};
+ghost use Rattle.palindromes.specs.Refusal.{add, remove, turn, theLength, theCount, theLongest, theLongestLength, theLongestAt, theLetter, theRow, theFrequency, theOccurrences, spell, find, list};
 ghost use Rattle.fasta_call.specs.Answer.{FastaPromise};
 ghost use Rattle.outcome.specs.Promise.{lending, nothing, Promise, OpeningPromise, FreeRow, Asked};
 
@@ -135,6 +135,22 @@ pub extern "C" fn mirror_row(store: &[u8], row: u64) -> u64
     ensures { λ r. ⌜ Asked (theRow row) (now (store .entry)) nothing r nothing ⌝ }
 {
     row_call::row(store, row)
+}
+
+// How often a row's repeat stands.
+#[no_mangle]
+pub extern "C" fn mirror_frequency(store: &[u8], row: u64) -> u64
+    ensures { λ r. ⌜ Asked (theFrequency row) (now (store .entry)) nothing r nothing ⌝ }
+{
+    frequency_calls::frequency(store, row)
+}
+
+// How many repeats stand, counted by place: over the rows and over the right ends.
+#[no_mangle]
+pub extern "C" fn mirror_occurrences(store: &[u8]) -> u64
+    ensures { λ r. ⌜ Asked theOccurrences (now (store .entry)) nothing r nothing ⌝ }
+{
+    frequency_calls::occurrences(store)
 }
 
 // Writes a row's repeat.

@@ -20,10 +20,9 @@ use Rattle.store.specs.Layout.{sizeIn, lettersIn}
 use Rattle.store.specs.Good.{ruleOf, nodeIn, Good}
 use Rattle.store.proofs.Sizes.{letters-length}
 use Rattle.identifier.proofs.Identifiers.{identifier-length}
-use Rattle.walk.specs.Replay.{endingIn, Holds}
+use Rattle.walk.specs.Replay.{endingIn, Holds, newAt}
 use Rattle.walk.proofs.Reading.{ending-length, ending-most}
 use Rattle.listing.specs.Listing.{listingIn, lineIn}
-use Rattle.listing.specs.Reading.{newAt}
 
 -- the list of the first k letters
 abbrev pub listed : Word → Word → ℕ → Word

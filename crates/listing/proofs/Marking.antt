@@ -3,34 +3,30 @@
 -- Rests on `prefix-met` of palindromes, on the laws of bits, and on those of a good store's rows: no two rows in use have the same rank.
 use Prim.Native.Nat.{ℕ, _+_, _-_, _*_, _/_, _≤_, _<_}
 use native.Mathlib.Omega.{arith}
-use native.Mathlib.Numerals.{add-one}
 use native.Mathlib.Decide.{decLt}
 use mathlib.Core.Path.{_≡_, refl, sym, ap, _∙_, subst}
-use mathlib.Core.Bool.{Bool, true, false, cond, _&&_, not, or-false, and-false, and-true}
-use mathlib.Core.Logic.{_≢_, _⊎_, inl, inr, ⊎-elim}
+use mathlib.Core.Bool.{Bool, true, false, cond, _&&_, not, and-false, and-true}
+use mathlib.Core.Logic.{_≢_, _⊎_, ⊎-elim}
 use mathlib.Core.List.{[]}
 use lib.ListN.{length, getD, take}
 use borrow.Author.Tests.{not-false}
-use Rattle.palindromes.specs.Word.{Word, sameWord}
+use Rattle.palindromes.specs.Word.{Word}
 use Rattle.palindromes.specs.Place.{stands}
 use Rattle.palindromes.specs.Node.{spelt}
 use Rattle.palindromes.specs.Refusal.{scratchSize}
-use Rattle.palindromes.proofs.Tests.{both-are, not-true-false, false-not-true, same-true}
-use Rattle.palindromes.proofs.Words.{same-or-not, suffix-stands, stands-of-empty}
-use Rattle.palindromes.proofs.Longest.{longest-suffix}
-use Rattle.palindromes.proofs.Places.{stands-true, stands-is, stands-empty}
-use Rattle.palindromes.proofs.Answers.{prefix-met}
+use Rattle.palindromes.proofs.Tests.{both-are, not-true-false, false-not-true}
+use Rattle.palindromes.proofs.Words.{same-or-not, stands-of-empty}
+use Rattle.palindromes.proofs.Places.{stands-true}
 use Rattle.bitmap.specs.Bitmap.{bitAt, withBit, inWindow}
 use Rattle.bitmap.proofs.Bits.{bit-same, bit-other, bit-none, with-length, window-true, window-is}
-use Rattle.eertree.specs.Covers.{NodeOf}
-use Rattle.eertree.proofs.Rows.{word-row, row-high}
+use Rattle.eertree.proofs.Rows.{word-row}
 use Rattle.store.specs.Layout.{sizeIn, rankIn, usedIn, lettersIn}
-use Rattle.store.specs.Good.{ruleOf, nodeIn, Good}
-use Rattle.store.proofs.Sizes.{used-below, letters-length}
+use Rattle.store.specs.Good.{nodeIn, Good}
+use Rattle.store.proofs.Sizes.{used-below}
 use Rattle.transitions.proofs.Rows.{covers, used-rank, count-most}
-use Rattle.walk.specs.Replay.{endingIn, Holds}
-use Rattle.walk.proofs.Reading.{holds-first}
-use Rattle.listing.specs.Reading.{newAt, ReadTo, ReadOn}
+use Rattle.walk.specs.Replay.{endingIn, Holds, newAt}
+use Rattle.walk.proofs.Reading.{holds-first, root-old, met-other, met-ending, ending-row}
+use Rattle.listing.specs.Reading.{ReadTo, ReadOn}
 use Rattle.listing.proofs.Stores.{bit-over}
 
 -- ---- bits and ranks
@@ -72,30 +68,7 @@ module _ {b : Word} (g : Good b) where
 
   -- ---- one letter more
 
-  -- a root's palindrome stood before
-  pub root-old : (k : ℕ) {last : ℕ} → Holds b (k + 1) last → last < 2 → newAt b k ≡ false
-  root-old k {last} h m = ap not (stood (same-or-not (endingIn b (k + 1)) []))
-    where
-      stood : (endingIn b (k + 1) ≡ []) ⊎ (endingIn b (k + 1) ≡ [] → ⊥) → stands (endingIn b (k + 1)) (take k (lettersIn b)) ≡ true
-      stood (inl e) = stands-is (endingIn b (k + 1)) (take k (lettersIn b)) (rw e (stands-empty (take k (lettersIn b))))
-      stood (inr n) = absurd (omega (arith, row-high (covers g) last (h .holds) n))
-
   module _ {from k row last : ℕ} {marks : Word} (l : k < sizeIn b) (a : ReadTo b from k row marks) (h : Holds b (k + 1) last) where
-    -- a palindrome of the record other than the one that ends there stands if it did before
-    met-other : (r : ℕ) (w : Word) → usedIn b r ≡ true → nodeIn b r ≡ spelt w → (w ≡ endingIn b (k + 1) → ⊥) → stands w (take k (lettersIn b)) ≡ stands w (take (k + 1) (lettersIn b))
-    met-other r w u e n =
-        let m : NodeOf (ruleOf b) (lettersIn b) (spelt w) = subst (NodeOf (ruleOf b) (lettersIn b)) e (covers g .each-row r u) in
-        let f : sameWord w (endingIn b (k + 1)) ≡ false = not-true-false (sameWord w (endingIn b (k + 1))) λ t. n (same-true w (endingIn b (k + 1)) t) in
-        cc (add-one k, prefix-met (ruleOf b) (lettersIn b) w k (omega (arith, letters-length (g .sized))) (m .0), or-false (stands w (take k (lettersIn b))))
-
-    -- and that one stands
-    met-ending : stands (endingIn b (k + 1)) (take (k + 1) (lettersIn b)) ≡ true
-    met-ending = stands-is (endingIn b (k + 1)) (take (k + 1) (lettersIn b)) (suffix-stands (longest-suffix (ruleOf b) (take (k + 1) (lettersIn b)) .suffix))
-
-    -- whose row is its own
-    ending-row : (r : ℕ) (w : Word) → usedIn b r ≡ true → nodeIn b r ≡ spelt w → w ≡ endingIn b (k + 1) → r ≡ last
-    ending-row r w u e i = g .table .one-row r last u (h .used) (cc (h .holds))
-
     -- where it stood before nothing is marked
     reads-old : newAt b k ≡ false → ReadOn b from k marks last false marks
     reads-old o =
@@ -106,23 +79,23 @@ module _ {b : Word} (g : Good b) where
         }
       where
         same : (r : ℕ) (w : Word) → usedIn b r ≡ true → nodeIn b r ≡ spelt w → stands w (take k (lettersIn b)) ≡ stands w (take (k + 1) (lettersIn b))
-        same r w u e = ⊎-elim (λ i. cc (met-ending, not-false (stands (endingIn b (k + 1)) (take k (lettersIn b))) o)) (met-other r w u e) (same-or-not w (endingIn b (k + 1)))
+        same r w u e = ⊎-elim (λ i. cc (met-ending g l h, not-false (stands (endingIn b (k + 1)) (take k (lettersIn b))) o)) (met-other g l h r w u e) (same-or-not w (endingIn b (k + 1)))
 
     -- so it is if it has a root's row
     pub reads-root : last < 2 → ReadOn b from k marks last false marks
-    reads-root m = reads-old (root-old k h m)
+    reads-root m = reads-old (root-old g k h m)
 
     -- where its rank is beyond the window nothing is marked either
     reads-beyond : (inWindow from (rankIn b last) marks ≡ false) → ReadOn b from k marks last false marks
     reads-beyond o =
         record {
-          reads = record { ends = h; tells = λ r w u m e i. a .tells r w u m e i ∙ met-other r w u e (apart r w u e i) };
+          reads = record { ends = h; tells = λ r w u m e i. a .tells r w u m e i ∙ met-other g l h r w u e (apart r w u e i) };
           first-is = sym (ap (λ (t : Bool). newAt b k && t) o ∙ and-false (newAt b k));
           kept = λ w m. refl;
         }
       where
         apart : (r : ℕ) (w : Word) → usedIn b r ≡ true → nodeIn b r ≡ spelt w → inWindow from (rankIn b r) marks ≡ true → w ≡ endingIn b (k + 1) → ⊥
-        apart r w u e i f = false-not-true o (subst (λ (q : ℕ). inWindow from (rankIn b q) marks ≡ true) (ending-row r w u e f) i)
+        apart r w u e i f = false-not-true o (subst (λ (q : ℕ). inWindow from (rankIn b q) marks ≡ true) (ending-row g l h r w u e f) i)
 
     -- where its row has no mark it gets one
     reads-new : 2 ≤ last → inWindow from (rankIn b last) marks ≡ true → bitAt marks (rankIn b last - from) ≡ false → ReadOn b from k marks last true (withBit marks (rankIn b last - from))
@@ -143,14 +116,14 @@ module _ {b : Word} (g : Good b) where
         tells r w u m e j = ⊎-elim here other (same-or-not w (endingIn b (k + 1)))
           where
             here : w ≡ endingIn b (k + 1) → bitAt (withBit marks at) (rankIn b r - from) ≡ stands w (take (k + 1) (lettersIn b))
-            here f = let q = ending-row r w u e f in cc (met-ending, bit-same marks at fits)
+            here f = let q = ending-row g l h r w u e f in cc (met-ending g l h, bit-same marks at fits)
 
             other : (w ≡ endingIn b (k + 1) → ⊥) → bitAt (withBit marks at) (rankIn b r - from) ≡ stands w (take (k + 1) (lettersIn b))
             other f =
                 let p : rankIn b r ≢ rankIn b last = λ o. f (cc (rank-only r last u (h .used) m n o, h .holds)) in
                 let x = window-true from (rankIn b r) (withBit marks at) j in
                 let y = window-is from (rankIn b r) marks (x .0) (omega (arith, x .1, with-length marks at)) in
-                bit-other marks at (rankIn b r - from) fits (λ o. p (omega (arith, x .0, window-true from (rankIn b last) marks i .0))) ∙ a .tells r w u m e y ∙ met-other r w u e f
+                bit-other marks at (rankIn b r - from) fits (λ o. p (omega (arith, x .0, window-true from (rankIn b last) marks i .0))) ∙ a .tells r w u m e y ∙ met-other g l h r w u e f
 
     -- the row's rank marked, whether that is in the window or not
     pub reads-marked : 2 ≤ last → {rank : ℕ} {first : Bool} {new : Word} → rank ≡ rankIn b last
@@ -168,5 +141,5 @@ module _ {b : Word} (g : Good b) where
   met-new {k} {row} {first} {old} a m = a .first-is ∙ go (decLt row 2)
     where
       go : Dec (row < 2) → (newAt b k && inWindow 0 (rankIn b row) old) ≡ newAt b k
-      go (yes h) = rw (root-old k (a .reads .ends) h) refl
+      go (yes h) = rw (root-old g k (a .reads .ends) h) refl
       go (no h) = let i = window-is 0 (rankIn b row) old (omega arith) (omega (arith, rank-below row (a .reads .ends .used) (omega arith), m)) in rw i (and-true (newAt b k))

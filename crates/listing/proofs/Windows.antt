@@ -24,11 +24,10 @@ use Rattle.store.specs.Good.{ruleOf, Good}
 use Rattle.store.proofs.Sizes.{letters-length}
 use Rattle.transitions.specs.Rows.{rowOf}
 use Rattle.transitions.proofs.Rows.{row-of, row-of-node, used-rank}
-use Rattle.walk.specs.Replay.{endingIn, Holds}
-use Rattle.walk.proofs.Reading.{read-stands}
+use Rattle.walk.specs.Replay.{endingIn, Holds, newAt}
+use Rattle.walk.proofs.Reading.{read-stands, root-old}
 use Rattle.listing.specs.Listing.{listingIn, lineIn, rankAt, lengthBelow}
-use Rattle.listing.specs.Reading.{newAt, ReadOn}
-use Rattle.listing.proofs.Marking.{root-old}
+use Rattle.listing.specs.Reading.{ReadOn}
 use Rattle.listing.proofs.Lines.{listed, listed-none, listed-all, listed-length, listed-most}
 
 -- what a window adds to the lines of lower ranks

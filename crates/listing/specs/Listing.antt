@@ -9,8 +9,7 @@ use Rattle.palindromes.specs.Bed.{bedLine, listing}
 use Rattle.store.specs.Layout.{rankIn, lettersIn}
 use Rattle.store.specs.Good.{ruleOf}
 use Rattle.transitions.specs.Rows.{rowOf}
-use Rattle.walk.specs.Replay.{endingIn}
-use Rattle.listing.specs.Reading.{newAt}
+use Rattle.walk.specs.Replay.{endingIn, newAt}
 
 -- the list of the palindromes of the record, each at its first place, with this name on every line
 abbrev pub listingIn : Word → Word → Word

@@ -1,7 +1,7 @@
 -- What the contracts of src/ say of a walk over the letters that keeps a bit for each row in use whose rank is in a window: the bit is set once the row's palindrome has stood in what is read.
 use Prim.Native.Nat.{ℕ, _+_, _-_, _≤_}
 use mathlib.Core.Path.{_≡_}
-use mathlib.Core.Bool.{Bool, true, _&&_, not}
+use mathlib.Core.Bool.{Bool, true, _&&_}
 use lib.ListN.{length, take}
 use lib.Seq.{sets}
 use Rattle.palindromes.specs.Word.{Word}
@@ -11,11 +11,7 @@ use Rattle.palindromes.specs.Refusal.{scratchSize}
 use Rattle.bitmap.specs.Bitmap.{bitAt, inWindow}
 use Rattle.store.specs.Layout.{sizeIn, rankIn, usedIn, lettersIn}
 use Rattle.store.specs.Good.{nodeIn}
-use Rattle.walk.specs.Replay.{endingIn, Holds}
-
--- the longest palindrome that ends the first k + 1 letters stood nowhere before
-abbrev pub newAt : Word → ℕ → Bool
-newAt b k = not (stands (endingIn b (k + 1)) (take k (lettersIn b)))
+use Rattle.walk.specs.Replay.{newAt, Holds}
 
 -- two buffers that differ in their first n bytes at most: whatever is stored over those, they are the same after it
 abbrev pub SameBehind : ℕ → Word → Word → Type 0

@@ -11,19 +11,23 @@ use Rattle.palindromes.specs.Word.{Word, isLetter, allLetters, keep, member}
 use Rattle.palindromes.specs.Palindrome.{plain}
 use Rattle.palindromes.specs.Mismatch.{reportedMismatch}
 use Rattle.palindromes.specs.Reading.{Reading, asPlain, readingNumber}
+use Rattle.palindromes.specs.Place.{frequency}
 use Rattle.palindromes.specs.Record.{palindromes, count, least, longestPlace}
+use Rattle.palindromes.specs.Occurrences.{occurrencesByRow, occurrencesByEnd}
 use Rattle.palindromes.specs.End.{End, atLeft, atRight, letterAt}
 use Rattle.palindromes.specs.Node.{Node, imaginary, spelt, lengthOf, spellingOf}
-use Rattle.palindromes.specs.Refusal.{Question, theLength, theCount, theLongest, theLongestLength, theLongestAt, theLetter, theRow, spell, find, list, Call, opening, add, remove, turn, ask, refusal}
+use Rattle.palindromes.specs.Refusal.{Question, theLength, theCount, theLongest, theLongestLength, theOccurrences, theLongestAt, theLetter, theRow, theFrequency, spell, find, list, Call, opening, add, remove, turn, ask, refusal}
 use Rattle.palindromes.proofs.Tests.{both-true}
 use Rattle.palindromes.proofs.Order.{longest-length-fits, longest-place-is}
 use Rattle.palindromes.proofs.Palindromes.{count-length}
+use Rattle.palindromes.proofs.Frequency.{frequency-most}
+use Rattle.palindromes.proofs.Occurrences.{occurrences-agree, occurrences-limit}
 use Rattle.palindromes.proofs.Letters.{letter-byte}
 use Rattle.palindromes.specs.SearchSteps.{searchSteps, reportedSteps}
 use Rattle.palindromes.proofs.SearchSteps.{steps-few}
 use Rattle.palindromes.proofs.Mismatch.{mismatch-small}
 use Rattle.bed.proofs.Listing.{listing-most}
-use Rattle.eertree.proofs.Rows.{reachOf, row-reach-most}
+use Rattle.eertree.proofs.Rows.{reachOf, row-reach-most, word-row}
 use Rattle.store.specs.Layout.{readingIn, usedIn, lettersIn}
 use Rattle.store.specs.Good.{ruleOf, nodeIn, Good}
 use Rattle.store.proofs.Sizes.{letters-length}
@@ -33,9 +37,10 @@ use Rattle.transitions.specs.Removal.{longestBefore, takesOut}
 use Rattle.transitions.proofs.Letters.{letter-at-end}
 use Rattle.transitions.proofs.Rows.{row-of-small, row-small, free-below, covers}
 use Rattle.outcome.specs.Reply.{Fits, accepted, refusedWith, answered, twosComplement}
+use Rattle.outcome.specs.Wide.{wideAnswer}
 use Rattle.outcome.specs.Answers.{addedOf, addedReply, removedOf, removedReply, foundOf, foundReply, foundAnswer}
 use Rattle.outcome.specs.Outcome.{Lent, viewIn, acceptedOutcome, changed, refusedOutcome, unlessRefused, outcome, answerTo}
-use Rattle.outcome.proofs.Refusals.{number-other, add-allowed, row-used, spell-used, list-named}
+use Rattle.outcome.proofs.Refusals.{number-other, add-allowed, row-used, spell-used, list-named, frequency-row}
 
 -- ---- letters and places
 
@@ -68,6 +73,11 @@ fits : (t : Bool) {r m n : ℕ} → r < 65536 → m < 65536 → n < 65536 → Fi
 unfolding accepted
 fits t p q h = record { number = omega arith; row = p; first = q; second = h }
 
+-- two sums of three bytes
+wide-fits : (x y : ℕ) → x < 16777216 → y < 16777216 → Fits (answered (wideAnswer x y))
+unfolding wideAnswer
+wide-fits x y h k = fits _ (omega arith) (omega (arith, h)) (omega (arith, k))
+
 module _ {b : Word} (g : Good b) where
   -- the letters are at most 1,024
   pub few : length (lettersIn b) ≤ 1024
@@ -90,6 +100,19 @@ module _ {b : Word} (g : Good b) where
       go imaginary h = omega arith
       go (spelt w) h = omega (arith, few)
 
+  -- how often a row's palindrome stands, which is no more often than there are letters
+  pub frequency-small : (r : ℕ) → 2 ≤ r → usedIn b r ≡ true → frequency (spellingOf (nodeIn b r)) (lettersIn b) < 65536
+  unfolding spellingOf
+  frequency-small r h u =
+      let d = word-row (covers g) r u h in
+      rw (d .1) (omega (arith, frequency-most (d .0) (d .2 .non-empty) (lettersIn b), few))
+
+  -- and both sums of all
+  pub few-occurrences : (occurrencesByRow (ruleOf b) (lettersIn b) < 16777216) × (occurrencesByEnd (ruleOf b) (lettersIn b) < 16777216)
+  few-occurrences =
+      let n = occurrences-limit (ruleOf b) (lettersIn b) few in
+      (omega (arith, n, occurrences-agree (ruleOf b) (lettersIn b)), omega (arith, n))
+
   -- ---- the questions
 
   pub answer-fits : (q : Question) (l : Lent) → refusal (ruleOf b) (viewIn b l) (ask q) ≡ 0 → Fits (answered (answerTo q b))
@@ -99,9 +122,11 @@ module _ {b : Word} (g : Good b) where
   answer-fits theLongest l z =
       fits _ (omega arith) (omega (arith, longest-length-fits (ruleOf b) (lettersIn b), few)) (omega (arith, longest-place-fits (ruleOf b) (lettersIn b), few))
   answer-fits theLongestLength l z = fits _ (omega arith) (omega (arith, longest-length-fits (ruleOf b) (lettersIn b), few)) (omega arith)
+  answer-fits theOccurrences l z = let n = few-occurrences in wide-fits _ _ (n .0) (n .1)
   answer-fits (theLongestAt e) l z = fits _ (row-of-small g _) (omega arith) (omega arith)
   answer-fits (theLetter i) l z = fits _ (omega arith) (letter-small (lettersIn b) i (g .letters)) (omega arith)
   answer-fits (theRow r) l z = fits _ (row-of-small g _) (length-small r (row-used b l r z)) (row-of-small g _)
+  answer-fits (theFrequency r) l z = fits _ (omega arith) (frequency-small r (frequency-row b l r z .0) (frequency-row b l r z .1)) (omega arith)
   answer-fits (spell r) l z = fits _ (omega arith) (spelling-small r (spell-used b l r z)) (omega arith)
   answer-fits (find p) l z = go (member p (palindromes (ruleOf b) (lettersIn b)))
     where

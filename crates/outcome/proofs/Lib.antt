@@ -3,6 +3,8 @@ pub mod Replies
 pub mod Refusals
 pub mod Promises
 pub mod Packing
+pub mod Wide
 pub mod Fits
 pub mod Told
 pub mod LongestLength
+pub mod Occurrences

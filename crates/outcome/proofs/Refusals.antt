@@ -4,6 +4,7 @@ use mathlib.Core.Path.{_≡_, refl, ap}
 use mathlib.Core.Bool.{Bool, true, false, not, _&&_}
 use mathlib.Core.List.{List, [], _∷_}
 use native.Mathlib.Omega.{arith}
+use native.Mathlib.Decide.{decLt}
 use lib.Dec.{eqb, leb, ltb}
 use lib.ListN.{length}
 use borrow.Author.Tests.{lt-leb, le-leb, lt-ltb, le-ltb, leb-true, leb-false, ltb-true, ltb-false}
@@ -12,7 +13,7 @@ use Rattle.palindromes.specs.Reading.{Reading}
 use Rattle.palindromes.specs.End.{End}
 use Rattle.palindromes.specs.Node.{spellingOf}
 use Rattle.palindromes.specs.Bed.{isIdentifier, listing}
-use Rattle.palindromes.specs.Refusal.{Question, theLength, theCount, theLongest, theLongestLength, theLongestAt, theLetter, theRow, spell, find, list, View, questionFaults, Call, opening, add, remove, turn, ask, fault, firstFault, isFree, spellingLength, storeSize, scratchSize, faults, refusal}
+use Rattle.palindromes.specs.Refusal.{Question, theLength, theCount, theLongest, theLongestLength, theOccurrences, theLongestAt, theLetter, theRow, theFrequency, spell, find, list, View, questionFaults, Call, opening, add, remove, turn, ask, fault, firstFault, isFree, spellingLength, storeSize, scratchSize, faults, refusal}
 use Rattle.palindromes.proofs.Tests.{both-true, false-not-true, non-empty-is}
 use Rattle.store.specs.Layout.{capacityIn, usedIn, lettersIn}
 use Rattle.store.specs.Good.{ruleOf, nodeIn}
@@ -56,9 +57,11 @@ question-numbers σ v theLength = tt
 question-numbers σ v theCount = tt
 question-numbers σ v theLongest = (row 6 _ refl, tt)
 question-numbers σ v theLongestLength = tt
+question-numbers σ v theOccurrences = tt
 question-numbers σ v (theLongestAt e) = (row 6 _ refl, tt)
 question-numbers σ v (theLetter i) = (row 7 _ refl, tt)
 question-numbers σ v (theRow r) = (row 7 _ refl, tt)
+question-numbers σ v (theFrequency r) = (row 7 _ refl, tt)
 question-numbers σ v (spell r) = (row 7 _ refl, (row 9 _ refl, tt))
 question-numbers σ v (find p) = (row 8 _ refl, (row 4 _ refl, tt))
 question-numbers σ v (list name) =
@@ -117,6 +120,23 @@ module _ (b : Word) (l : Lent) where
   pub row-free : (r : ℕ) → usedIn b r ≡ false → refusal (ruleOf b) (viewIn b l) (ask (theRow r)) ≡ 7
   unfolding refusal faults questionFaults viewIn firstFault fault isFree
   row-free r h = rw h
+
+  -- 02 (iii) "rows 0 and 1, free rows and rows over capacity + 1 are refused with 7"
+  pub frequency-root : (r : ℕ) → r < 2 → refusal (ruleOf b) (viewIn b l) (ask (theFrequency r)) ≡ 7
+  unfolding refusal faults questionFaults viewIn firstFault fault
+  frequency-root r h = rw (lt-ltb r 2 h)
+
+  pub frequency-free : (r : ℕ) → 2 ≤ r → usedIn b r ≡ false → refusal (ruleOf b) (viewIn b l) (ask (theFrequency r)) ≡ 7
+  unfolding refusal faults questionFaults viewIn firstFault fault isFree
+  frequency-free r m h = rw (le-ltb r 2 m, h)
+
+  pub frequency-accepted : (r : ℕ) → 2 ≤ r → usedIn b r ≡ true → refusal (ruleOf b) (viewIn b l) (ask (theFrequency r)) ≡ 0
+  unfolding refusal faults questionFaults viewIn firstFault fault isFree
+  frequency-accepted r m h = rw (le-ltb r 2 m, h)
+
+  pub occurrences-accepted : refusal (ruleOf b) (viewIn b l) (ask theOccurrences) ≡ 0
+  unfolding refusal faults questionFaults viewIn firstFault fault
+  occurrences-accepted = refl
 
   pub spell-free : (r : ℕ) → usedIn b r ≡ false → refusal (ruleOf b) (viewIn b l) (ask (spell r)) ≡ 7
   unfolding refusal faults questionFaults viewIn firstFault fault isFree
@@ -214,6 +234,16 @@ module _ (b : Word) (l : Lent) where
 
   pub row-used : (r : ℕ) → refusal (ruleOf b) (viewIn b l) (ask (theRow r)) ≡ 0 → usedIn b r ≡ true
   row-used r z = not-false-true (usedIn b r) (λ h. omega (arith, row-free r h))
+
+  pub frequency-row : (r : ℕ) → refusal (ruleOf b) (viewIn b l) (ask (theFrequency r)) ≡ 0 → (2 ≤ r) × (usedIn b r ≡ true)
+  frequency-row r z = (high, not-false-true (usedIn b r) (λ h. omega (arith, frequency-free r high h)))
+    where
+      go : Dec (r < 2) → 2 ≤ r
+      go (yes h) = absurd (omega (arith, frequency-root r h))
+      go (no h) = omega arith
+
+      high : 2 ≤ r
+      high = go (decLt r 2)
 
   pub spell-used : (r : ℕ) → refusal (ruleOf b) (viewIn b l) (ask (spell r)) ≡ 0 → usedIn b r ≡ true
   spell-used r z = not-false-true (usedIn b r) (λ h. omega (arith, spell-free r h))

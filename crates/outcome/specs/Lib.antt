@@ -1,4 +1,5 @@
 pub mod Reply
+pub mod Wide
 pub mod Answers
 pub mod Outcome
 pub mod Promise

@@ -8,12 +8,13 @@ use lib.Seq.{sets}
 use Rattle.palindromes.specs.Word.{Word, member}
 use Rattle.palindromes.specs.Mismatch.{reportedMismatch}
 use Rattle.palindromes.specs.Reading.{readingNumber}
-use Rattle.palindromes.specs.Place.{standsOnce}
+use Rattle.palindromes.specs.Place.{frequency, standsOnce}
 use Rattle.palindromes.specs.Record.{palindromes, count, longestLength, longestPlace}
+use Rattle.palindromes.specs.Occurrences.{occurrencesByRow, occurrencesByEnd}
 use Rattle.palindromes.specs.End.{letterAt}
 use Rattle.palindromes.specs.Node.{spelt, lengthOf, linkOf, innerOf, spellingOf}
 use Rattle.palindromes.specs.Bed.{listing}
-use Rattle.palindromes.specs.Refusal.{Question, theLength, theCount, theLongest, theLongestLength, theLongestAt, theLetter, theRow, spell, find, list, Call, opening, add, remove, turn, ask, View, scratchSize, refusal}
+use Rattle.palindromes.specs.Refusal.{Question, theLength, theCount, theLongest, theLongestLength, theOccurrences, theLongestAt, theLetter, theRow, theFrequency, spell, find, list, Call, opening, add, remove, turn, ask, View, scratchSize, refusal}
 use Rattle.palindromes.specs.SearchSteps.{reportedSteps}
 use Rattle.store.specs.Layout.{capacityIn, readingIn, usedIn, lettersIn}
 use Rattle.store.specs.Good.{ruleOf, nodeIn, Good}
@@ -23,6 +24,7 @@ use Rattle.transitions.specs.Addition.{bringsIn, rowAfter, afterAddition}
 use Rattle.transitions.specs.Removal.{longestBefore, takesOut, afterRemoval}
 use Rattle.transitions.specs.Turning.{turned}
 use Rattle.outcome.specs.Reply.{Reply, refusedWith, accepted, Answer, answer, answered, twosComplement}
+use Rattle.outcome.specs.Wide.{wideAnswer}
 use Rattle.outcome.specs.Answers.{addedOf, addedReply, removedOf, removedReply, foundOf, foundAnswer}
 
 -- the buffers that are lent with a call, beside the store, for it to write to; empty where the call takes none
@@ -67,9 +69,11 @@ answerTo theLength b = answer false 0 (length (lettersIn b)) 0
 answerTo theCount b = answer false 0 (count (ruleOf b) (lettersIn b)) 0
 answerTo theLongest b = answer false 0 (longestLength (ruleOf b) (lettersIn b)) (longestPlace (ruleOf b) (lettersIn b))
 answerTo theLongestLength b = answer false 0 (longestLength (ruleOf b) (lettersIn b)) 0
+answerTo theOccurrences b = wideAnswer (occurrencesByRow (ruleOf b) (lettersIn b)) (occurrencesByEnd (ruleOf b) (lettersIn b))
 answerTo (theLongestAt e) b = answer (standsOnce (longestBefore e b) (lettersIn b)) (rowOf b (spelt (longestBefore e b))) 0 0
 answerTo (theLetter i) b = answer false 0 (getD (lettersIn b) i 0) 0
 answerTo (theRow r) b = answer false (rowOf b (linkOf (ruleOf b) (nodeIn b r))) (twosComplement (lengthOf (nodeIn b r))) (rowOf b (innerOf (nodeIn b r)))
+answerTo (theFrequency r) b = answer false 0 (frequency (spellingOf (nodeIn b r)) (lettersIn b)) 0
 answerTo (spell r) b = answer false 0 (length (spellingOf (nodeIn b r))) 0
 answerTo (find p) b = foundAnswer (foundOf (member p (palindromes (ruleOf b) (lettersIn b))) (rowOf b (spelt p)) (reportedMismatch (ruleOf b) p))
 answerTo (list name) b = answer false 0 (length (listing (ruleOf b) name (lettersIn b))) 0
@@ -80,9 +84,11 @@ lentAfter theLength b l = l
 lentAfter theCount b l = l
 lentAfter theLongest b l = l
 lentAfter theLongestLength b l = l
+lentAfter theOccurrences b l = l
 lentAfter (theLongestAt e) b l = l
 lentAfter (theLetter i) b l = l
 lentAfter (theRow r) b l = l
+lentAfter (theFrequency r) b l = l
 lentAfter (spell r) b l = record { scratch = l .scratch; out = written (spellingOf (nodeIn b r)) (l .out) }
 lentAfter (find p) b l = l
 lentAfter (list name) b l =

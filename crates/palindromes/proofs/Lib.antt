@@ -9,7 +9,10 @@ pub mod Lists
 pub mod Letters
 pub mod Places
 pub mod Stretches
+pub mod SuffixPalindromes
+pub mod Frequency
 pub mod Palindromes
+pub mod Occurrences
 pub mod NewIn
 pub mod Order
 pub mod Across

@@ -1,7 +1,7 @@
 -- How much searching an addition at the right end costs. The candidates are the path along the links from the longest palindrome that ends the record (`steps-start`), so the search goes on link by
 -- link (`steps-imaginary`, `steps-served`, `steps-passed`). Each one passed is shorter than the one before by at least a letter, and the one that serves grows by two: what a search passes it takes
 -- from the length of the longest palindrome at the end (`steps-most`). Here the empty word counts as a palindrome.
--- Rests on `Longest`, `Growth`, and the suffixes of `Stretches`. A partner rule that undoes itself is asked for only where a palindrome grows.
+-- Rests on `Longest`, `Growth`, `SuffixPalindromes` and the suffixes of `Stretches`. A partner rule that undoes itself is asked for only where a palindrome grows.
 use Prim.Native.Nat.{ℕ, zero, suc, _+_, _≤_, _<_}
 use native.Mathlib.Omega.{arith}
 use native.Mathlib.Numerals.{add-one}
@@ -13,16 +13,16 @@ use lib.Dec.{eqb}
 use lib.ListN.{length, length-append}
 use borrow.Author.Tests.{eqb-true, eqb-false}
 use Rattle.palindromes.specs.Word.{Word, member, keep}
-use Rattle.palindromes.specs.Palindrome.{SelfInverse, Symmetric, isSymmetric, isPalindrome}
+use Rattle.palindromes.specs.Palindrome.{SelfInverse, Symmetric}
 use Rattle.palindromes.specs.Place.{Suffix}
 use Rattle.palindromes.specs.Record.{suffixes, longestSuffix}
 use Rattle.palindromes.specs.Node.{Node, imaginary, spelt, linkOf, around}
 use Rattle.palindromes.specs.SearchSteps.{candidates, serves, passedBefore, searchSteps}
-use Rattle.palindromes.proofs.Tests.{false-not-true, not-true-false, decided, symmetric-is, palindrome-true, palindrome-is}
+use Rattle.palindromes.proofs.Tests.{not-true-false, decided}
 use Rattle.palindromes.proofs.Words.{suffix-append, suffix-length, suffix-or-not}
-use Rattle.palindromes.proofs.Lists.{keep-pass, keep-skip}
 use Rattle.palindromes.proofs.Stretches.{suffixes-true, suffixes-is}
 use Rattle.palindromes.proofs.Longest.{longest-suffix}
+use Rattle.palindromes.proofs.SuffixPalindromes.{ending-none, ending-longest, ending-link}
 use Rattle.palindromes.proofs.Growth.{Walk, Faces, candidate-start, walk-link, walk-hit, nothing-longest, letter-symmetric, link-shorter}
 
 module _ (σ : ℕ → ℕ) where
@@ -32,33 +32,20 @@ module _ (σ : ℕ → ℕ) where
   candidatesFrom imaginary = imaginary ∷ []
   candidatesFrom (spelt w) = candidates σ w
 
-  candidates-pass : (x : ℕ) (s : Word) → Symmetric σ (x ∷ s) → candidates σ (x ∷ s) ≡ spelt (x ∷ s) ∷ candidates σ s
-  unfolding candidates suffixes
-  candidates-pass x s h =
-      let p = palindrome-is σ (x ∷ s) (record { non-empty = cons-ne-nil x s; symmetric = h }) in
-      ap (λ (l : List Word). map spelt l ++ (spelt [] ∷ imaginary ∷ [])) (keep-pass (isPalindrome σ) (x ∷ s) (suffixes s) p)
-
-  candidates-skip : (x : ℕ) (s : Word) → isSymmetric σ (x ∷ s) ≡ false → candidates σ (x ∷ s) ≡ candidates σ s
-  unfolding candidates suffixes
-  candidates-skip x s h =
-      let p = not-true-false (isPalindrome σ (x ∷ s)) (λ t. false-not-true h (symmetric-is σ (x ∷ s) (palindrome-true σ (x ∷ s) t .symmetric))) in
-      ap (λ (l : List Word). map spelt l ++ (spelt [] ∷ imaginary ∷ [])) (keep-skip (isPalindrome σ) (x ∷ s) (suffixes s) p)
+  -- the candidates by the palindromes among them
+  listed : List Word → List Node
+  listed l = map spelt l ++ (spelt [] ∷ imaginary ∷ [])
 
   -- those of a record are those of the longest palindrome that ends it
   candidates-longest : (s : Word) → candidates σ s ≡ candidates σ (longestSuffix σ s)
-  unfolding longestSuffix
-  candidates-longest [] = refl
-  candidates-longest (x ∷ s) = go (isSymmetric σ (x ∷ s)) refl (candidates-longest s)
-    where
-      go : (t : Bool) → isSymmetric σ (x ∷ s) ≡ t → candidates σ s ≡ candidates σ (longestSuffix σ s) → candidates σ (x ∷ s) ≡ candidates σ (cond t (x ∷ s) (longestSuffix σ s))
-      go true e ih = refl
-      go false e ih = candidates-skip x s e ∙ ih
+  unfolding candidates listed
+  candidates-longest s = ap listed (ending-longest σ s)
 
   -- and after a palindrome come those from its link on
   candidates-link : (w : Word) → Symmetric σ w → candidates σ w ≡ spelt w ∷ candidatesFrom (linkOf σ (spelt w))
-  unfolding linkOf candidates suffixes keep
-  candidates-link [] h = refl
-  candidates-link (x ∷ s) h = candidates-pass x s h ∙ ap (λ (l : List Node). spelt (x ∷ s) ∷ l) (candidates-longest s)
+  unfolding linkOf candidates listed
+  candidates-link [] h = ap listed (ending-none σ)
+  candidates-link (x ∷ s) h = ap listed (ending-link σ x s h)
 
   module _ (c : ℕ) (s : Word) where
     -- ---- the search from a node on

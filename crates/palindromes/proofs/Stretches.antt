@@ -48,7 +48,7 @@ pub stretches-snoc : (s : Word) (c : ℕ) → stretches (s ++ (c ∷ [])) ≡ st
 unfolding stretches suffixesOfEach
 stretches-snoc s c = cc (prefixes-snoc s c, suffixes-of-joined (prefixes s) ((s ++ (c ∷ [])) ∷ []), append-nil (suffixes (s ++ (c ∷ []))))
 
-stretches-empty : stretches [] ≡ []
+pub stretches-empty : stretches [] ≡ []
 unfolding stretches prefixes suffixesOfEach
 stretches-empty = refl
 

@@ -4,6 +4,7 @@ pub mod Mismatch
 pub mod Reading
 pub mod Place
 pub mod Record
+pub mod Occurrences
 pub mod End
 pub mod Node
 pub mod SearchSteps

@@ -30,6 +30,10 @@ stretches s = suffixesOfEach (prefixes s)
 unfoldable pub palindromes : (ℕ → ℕ) → Word → List Word
 palindromes σ s = distinct (keep (isPalindrome σ) (stretches s))
 
+-- the mirror repeats that end the record, from the longest to the shortest; 001 section 2.2 "suffix-palindromes"
+abbrev pub suffixPalindromes : (ℕ → ℕ) → Word → List Word
+suffixPalindromes σ s = keep (isPalindrome σ) (suffixes s)
+
 -- 01 "number of distinct repeats"; 001 remark 2.2
 unfoldable pub count : (ℕ → ℕ) → Word → ℕ
 count σ s = length (palindromes σ s)

@@ -1,7 +1,7 @@
 -- DEFINITIONS. The refusal number of each call of document 01, in the order of its table "Numbers by the place where they are checked".
 -- Nothing here is proved.
 use Prim.Native.Nat.{ℕ, zero, suc, _+_, _*_, _/_}
-use mathlib.Core.Bool.{Bool, true, false, _&&_, not}
+use mathlib.Core.Bool.{Bool, true, false, _&&_, _||_, not}
 use mathlib.Core.List.{List, [], _∷_}
 use mathlib.Core.Option.{Option, none, some}
 use lib.Dec.{leb, ltb}
@@ -14,10 +14,11 @@ use Rattle.palindromes.specs.Bed.{isIdentifier, listing}
 
 -- a question with its arguments: it changes no byte of the store
 pub data Question : Type 0 where
-  theLength theCount theLongest theLongestLength : Question
+  theLength theCount theLongest theLongestLength theOccurrences : Question
   theLongestAt : End → Question
   theLetter : (place : ℕ) → Question
   theRow : (row : ℕ) → Question
+  theFrequency : (row : ℕ) → Question
   spell : (row : ℕ) → Question
   find : (piece : Word) → Question
   list : (identifier : Word) → Question
@@ -70,15 +71,17 @@ unfoldable pub spellingLength : Option Node → ℕ
 spellingLength none = zero
 spellingLength (some v) = length (spellingOf v)
 
--- the rows of the table that name a question, after that of the store
+-- the rows of the table that name a question, after that of the store. 02 (iii) "rows 0 and 1, free rows and rows over capacity + 1 are refused with 7"
 unfoldable pub questionFaults : (ℕ → ℕ) → View → Question → List ℕ
 questionFaults σ v theLength = []
 questionFaults σ v theCount = []
 questionFaults σ v theLongest = fault 6 (isEmpty (v .letters)) ∷ []
 questionFaults σ v theLongestLength = []
+questionFaults σ v theOccurrences = []
 questionFaults σ v (theLongestAt e) = fault 6 (isEmpty (v .letters)) ∷ []
 questionFaults σ v (theLetter i) = fault 7 (leb (length (v .letters)) i) ∷ []
 questionFaults σ v (theRow r) = fault 7 (isFree (v .row r)) ∷ []
+questionFaults σ v (theFrequency r) = fault 7 (ltb r 2 || isFree (v .row r)) ∷ []
 questionFaults σ v (spell r) = fault 7 (isFree (v .row r)) ∷ fault 9 (ltb (v .out) (spellingLength (v .row r))) ∷ []
 questionFaults σ v (find p) = fault 8 (isEmpty p) ∷ fault 4 (not (allLetters p)) ∷ []
 questionFaults σ v (list name) =

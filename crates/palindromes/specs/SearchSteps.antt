@@ -3,16 +3,16 @@ use Prim.Native.Nat.{ℕ, zero, suc}
 use mathlib.Core.Bool.{Bool, true, cond}
 use mathlib.Core.List.{List, [], _∷_, _++_, map}
 use lib.Dec.{eqb}
-use Rattle.palindromes.specs.Word.{Word, member, keep}
-use Rattle.palindromes.specs.Palindrome.{plain, isPalindrome}
+use Rattle.palindromes.specs.Word.{Word, member}
+use Rattle.palindromes.specs.Palindrome.{plain}
 use Rattle.palindromes.specs.Reading.{asPlain, readingNumber}
-use Rattle.palindromes.specs.Record.{suffixes}
+use Rattle.palindromes.specs.Record.{suffixes, suffixPalindromes}
 use Rattle.palindromes.specs.End.{End, atLeft, atRight}
 use Rattle.palindromes.specs.Node.{Node, imaginary, spelt}
 
 -- 02 (xiii) "line up the repeats that end the record, longest first, then the empty and the imaginary string"; 001 proposition 2.5 "the suffix-palindromes of T in the order of decreasing length"
 unfoldable pub candidates : (ℕ → ℕ) → Word → List Node
-candidates σ s = map spelt (keep (isPalindrome σ) (suffixes s)) ++ (spelt [] ∷ imaginary ∷ [])
+candidates σ s = map spelt (suffixPalindromes σ s) ++ (spelt [] ∷ imaginary ∷ [])
 
 -- "with the new letter just to its left", its partner where the rule is another: the record ends with both; "the imaginary one always serves"
 unfoldable pub serves : (ℕ → ℕ) → ℕ → Word → Node → Bool

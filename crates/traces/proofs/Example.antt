@@ -140,9 +140,13 @@ run-to-row =
     let tried = one-more (one-more run-to-CA (opening asPlain 0) (refl, zero-refused (storeAfter start with-CA))) (add atRight 78) tt in
     one-more (one-more tried (ask (find (67 ∷ []))) tt) (ask (theRow 2)) tt
 
+pub run-to-CAC : Run start with-CAC
+unfolding with-CAC
+run-to-CAC = one-more run-to-row (add atRight 67) tt
+
 pub a-run : Run start calls
-unfolding calls A-tried with-CAC
-a-run = one-more (one-more (one-more run-to-row (add atRight 67) tt) (add atLeft 65) tt) (remove atRight) tt
+unfolding calls A-tried
+a-run = one-more (one-more run-to-CAC (add atLeft 65) tt) (remove atRight) tt
 
 pub its-claims : Claims 0 3 start calls
 unfolding readingNumber
@@ -154,7 +158,7 @@ before-CAC : lettersAfter 3 row-asked ≡ 67 ∷ 65 ∷ []
 unfolding row-asked C-sought N-tried opening-tried with-CA with-A G-gone with-G lettersAfter lettersStep added removed withoutFirst isLetter
 before-CAC = refl
 
-in-CAC : lettersAfter 3 with-CAC ≡ 67 ∷ 65 ∷ 67 ∷ []
+pub in-CAC : lettersAfter 3 with-CAC ≡ 67 ∷ 65 ∷ 67 ∷ []
 unfolding with-CAC lettersAfter lettersStep added isLetter
 in-CAC = rw before-CAC refl
 
@@ -184,7 +188,7 @@ plain-row : readingAfter 0 row-asked ≡ 0
 unfolding row-asked C-sought readingAfter readingStep
 plain-row = plain-N
 
-plain-CAC : readingAfter 0 with-CAC ≡ 0
+pub plain-CAC : readingAfter 0 with-CAC ≡ 0
 unfolding with-CAC readingAfter readingStep
 plain-CAC = plain-row
 

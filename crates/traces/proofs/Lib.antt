@@ -8,8 +8,10 @@ pub mod Turn
 pub mod Undone
 pub mod Theorem
 pub mod Appending
+pub mod Frequencies
 pub mod Possible
 pub mod Example
 pub mod ExampleInverted
 pub mod ExampleTurned
 pub mod ExampleAppending
+pub mod ExampleFrequencies

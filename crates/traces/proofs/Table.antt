@@ -130,7 +130,7 @@ module _ (m k : ℕ) (s : Word) (row : Word → ℕ) (b : Word) (st : State m k 
   -- ---- the answers
 
   -- a question whose outcome on this store has the reply r
-  replies : (q : Question) (r : Reply) → ((l : Lent) → outcome (ask q) b l .reply ≡ r) → Replies q b r
+  pub replies : (q : Question) (r : Reply) → ((l : Lent) → outcome (ask q) b l .reply ≡ r) → Replies q b r
   replies q r f l a b′ l′ p = told good p .reply ∙ f l
 
   no-row-reply : (r : ℕ) → usedIn b r ≡ false → Replies (theRow r) b (refusedWith 7)

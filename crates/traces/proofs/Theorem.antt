@@ -314,6 +314,10 @@ module _ (way : Reading) (k : ℕ) (b₀ : Word) (h : Bytes b₀) (a : ℕ) (b :
   pub every-list : {xs : List Step} → Run b xs → Claims (readingNumber way) k b xs
   every-list = claims (readingNumber way) k b first-state
 
+  -- what is known of the store after a list, for claims about single questions
+  pub state-after : {xs : List Step} → Run b xs → State (readingAfter (readingNumber way) xs) k (lettersAfter k xs) (λ w. rowAfter (readingNumber way) k xs w) (storeAfter b xs)
+  state-after = state (readingNumber way) k b first-state
+
   -- 01 "a store made by opening and accepted calls is always good"
   pub always-good : {xs : List Step} → Run b xs → Good (storeAfter b xs)
   always-good r = every-list r .shown .good

@@ -5,28 +5,33 @@ use Prim.Native.Nat.{ℕ, _+_, _≤_, _<_}
 use native.Mathlib.Omega.{arith}
 use native.Mathlib.Numerals.{add-one}
 use mathlib.Core.Path.{_≡_, sym, ap, _∙_, subst}
-use mathlib.Core.Bool.{true}
+use mathlib.Core.Bool.{true, false, not, or-false}
+use mathlib.Core.Logic.{_⊎_, inl, inr}
 use mathlib.Core.List.{[], _∷_, _++_}
 use lib.ListN.{length, getD, take, drop, length-take, take-append-drop}
 use lib.Seq.{take-suc}
-use Rattle.palindromes.specs.Word.{Word, isLetter}
-use Rattle.palindromes.specs.Place.{Stands}
+use Rattle.palindromes.specs.Word.{Word, isLetter, sameWord}
+use Rattle.palindromes.specs.Place.{Stands, stands}
 use Rattle.palindromes.specs.Record.{longestSuffix}
 use Rattle.palindromes.specs.End.{End}
 use Rattle.palindromes.specs.Node.{Node, spelt, spellingOf}
-use Rattle.palindromes.proofs.Words.{suffix-length, suffix-of-empty, prefix-stands}
+use Rattle.palindromes.proofs.Tests.{not-true-false, same-true}
+use Rattle.palindromes.proofs.Words.{same-or-not, suffix-length, suffix-of-empty, suffix-stands, prefix-stands}
+use Rattle.palindromes.proofs.Places.{stands-is, stands-empty}
+use Rattle.palindromes.proofs.Answers.{prefix-met}
 use Rattle.palindromes.proofs.Longest.{longest-suffix}
 use Rattle.palindromes.proofs.Letters.{letter-of}
 use Rattle.palindromes.proofs.Readings.{rule-inverse}
-use Rattle.eertree.specs.Covers.{Covers}
+use Rattle.eertree.specs.Covers.{NodeOf, Covers}
 use Rattle.eertree.proofs.Covers.{shows-covers}
 use Rattle.eertree.proofs.Replay.{step-there}
+use Rattle.eertree.proofs.Rows.{row-high}
 use Rattle.store.specs.Layout.{sizeIn, usedIn, readingIn, lettersIn}
 use Rattle.store.specs.Good.{ruleOf, tableIn, nodeIn, Good}
 use Rattle.store.proofs.Sizes.{letters-length}
 use Rattle.walk.specs.declared.Walked.the-variants.{At, Nothing}
 use Rattle.walk.specs.Walk.{Chain, Stepped, grown, ended}
-use Rattle.walk.specs.Replay.{lettersTowards, endingIn, Holds}
+use Rattle.walk.specs.Replay.{lettersTowards, endingIn, newAt, Holds}
 use Rattle.walk.proofs.Found.{chain, meets-longest}
 use Rattle.walk.proofs.Towards.{towards-length, covers-towards}
 use Rattle.walk.proofs.Stores.{rows-fit}
@@ -85,6 +90,33 @@ module _ {b : Word} (g : Good b) where
         let h = shows-covers (g .table) in
         let w : longestSuffix (ruleOf b) (take k (lettersIn b) ++ (d ∷ [])) ≡ [] = meets-longest b h (rule-inverse (readingIn b)) (lettersIn b) k d (omega (arith, more-letters)) row n Nothing (a .used) (a .holds) m in
         record { used = rw f (h .row-one .0); holds = rw (f, more, w) (h .row-one .1) }
+
+-- ---- what one letter more brings
+
+module _ {b : Word} (g : Good b) where
+  -- a root's palindrome stood before
+  pub root-old : (k : ℕ) {last : ℕ} → Holds b (k + 1) last → last < 2 → newAt b k ≡ false
+  root-old k {last} h m = ap not (stood (same-or-not (endingIn b (k + 1)) []))
+    where
+      stood : (endingIn b (k + 1) ≡ []) ⊎ (endingIn b (k + 1) ≡ [] → ⊥) → stands (endingIn b (k + 1)) (take k (lettersIn b)) ≡ true
+      stood (inl e) = stands-is (endingIn b (k + 1)) (take k (lettersIn b)) (rw e (stands-empty (take k (lettersIn b))))
+      stood (inr n) = absurd (omega (arith, row-high (shows-covers (g .table)) last (h .holds) n))
+
+  module _ {k last : ℕ} (l : k < sizeIn b) (h : Holds b (k + 1) last) where
+    -- a palindrome of the record other than the one that ends there stands if it did before
+    pub met-other : (r : ℕ) (w : Word) → usedIn b r ≡ true → nodeIn b r ≡ spelt w → (w ≡ endingIn b (k + 1) → ⊥) → stands w (take k (lettersIn b)) ≡ stands w (take (k + 1) (lettersIn b))
+    met-other r w u e n =
+        let m : NodeOf (ruleOf b) (lettersIn b) (spelt w) = subst (NodeOf (ruleOf b) (lettersIn b)) e (shows-covers (g .table) .each-row r u) in
+        let f : sameWord w (endingIn b (k + 1)) ≡ false = not-true-false (sameWord w (endingIn b (k + 1))) λ t. n (same-true w (endingIn b (k + 1)) t) in
+        cc (add-one k, prefix-met (ruleOf b) (lettersIn b) w k (omega (arith, letters-length (g .sized))) (m .0), or-false (stands w (take k (lettersIn b))))
+
+    -- and that one stands
+    pub met-ending : stands (endingIn b (k + 1)) (take (k + 1) (lettersIn b)) ≡ true
+    met-ending = stands-is (endingIn b (k + 1)) (take (k + 1) (lettersIn b)) (suffix-stands (longest-suffix (ruleOf b) (take (k + 1) (lettersIn b)) .suffix))
+
+    -- whose row is its own
+    pub ending-row : (r : ℕ) (w : Word) → usedIn b r ≡ true → nodeIn b r ≡ spelt w → w ≡ endingIn b (k + 1) → r ≡ last
+    ending-row r w u e i = g .table .one-row r last u (h .used) (cc (h .holds))
 
 -- the row come to spells the longest palindrome that ends the letters read
 pub ending-length : {b : Word} {k r : ℕ} → Holds b k r → length (spellingOf (nodeIn b r)) ≡ length (endingIn b k)

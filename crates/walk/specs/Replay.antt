@@ -1,9 +1,10 @@
 -- The letters of a store as they are read: towards the end that a letter joins, and again from left to right, as the contract of src/replay.rt says.
-use Prim.Native.Nat.{ℕ}
+use Prim.Native.Nat.{ℕ, _+_}
 use mathlib.Core.Path.{_≡_}
-use mathlib.Core.Bool.{true}
+use mathlib.Core.Bool.{Bool, true, not}
 use lib.ListN.{take}
 use Rattle.palindromes.specs.Word.{Word}
+use Rattle.palindromes.specs.Place.{stands}
 use Rattle.palindromes.specs.Record.{longestSuffix}
 use Rattle.palindromes.specs.End.{End, atLeft, atRight}
 use Rattle.palindromes.specs.Node.{spelt}
@@ -28,6 +29,10 @@ stepsTowards b e c = searchSteps (ruleOf b) (letterTowards (ruleOf b) e c) (lett
 -- the longest palindrome that ends the first k letters of the store
 abbrev pub endingIn : Word → ℕ → Word
 endingIn b k = longestSuffix (ruleOf b) (take k (lettersIn b))
+
+-- the longest palindrome that ends the first k + 1 letters stood nowhere before
+abbrev pub newAt : Word → ℕ → Bool
+newAt b k = not (stands (endingIn b (k + 1)) (take k (lettersIn b)))
 
 -- row r of the store is used, and holds the longest palindrome that ends the first k letters
 pub record Holds (b : Word) (k r : ℕ) : Type 0 where

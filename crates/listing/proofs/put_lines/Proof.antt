@@ -10,7 +10,8 @@ use Rattle.palindromes.specs.Word.{Word}
 use Rattle.palindromes.specs.Bed.{bedLine}
 use Rattle.palindromes.specs.Refusal.{scratchSize}
 use Rattle.store.specs.Layout.{sizeIn}
-use Rattle.listing.specs.Reading.{newAt, SameBehind, ReadTo}
+use Rattle.walk.specs.Replay.{newAt}
+use Rattle.listing.specs.Reading.{SameBehind, ReadTo}
 use Rattle.listing.proofs.Stores.{written-on}
 use Rattle.listing.proofs.Marking.{met-new}
 use Rattle.listing.proofs.Lines.{listed, listed-none, listed-all, listed-new, listed-old, listed-most, line-is, line-starts, line-small}

@@ -1,0 +1,2 @@
+-- an array with a number for each row
+pub mod Numbers

@@ -1,0 +1,2 @@
+pub mod Frequencies
+pub mod Counts

@@ -1,0 +1,2 @@
+-- the answers of the calls
+pub mod Asking

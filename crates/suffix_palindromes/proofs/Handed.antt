@@ -1,0 +1,255 @@
+-- Numbers that are handed down the links while the letters are read from left to right. The row that a letter leads to gets the number of its palindrome, and every other row whose palindrome stands
+-- in what is read had its number before (`handed-next`, `handed-root`). The row's link was met before it (`linked`), so the row's mark is its link's, or 1 if the row is the wanted one
+-- (`marks-other`, `marks-wanted`), and its chain is one longer than its link's (`chains-word`). The marks add up to the frequency (`frequency-next`), the chains to all palindromes by their ends
+-- (`by-end-next`).
+-- Rests on `at-most-one-new` and `link-stood` of palindromes, on `SuffixPalindromes`, `Frequency` and `Occurrences` there, and on the laws of a good store's rows: no two rows hold the same node.
+use Prim.Native.Nat.{ℕ, suc, _+_, _≤_, _<_}
+use native.Mathlib.Omega.{arith}
+use native.Mathlib.Numerals.{add-one}
+use native.Mathlib.Decide.{ℕ-discrete}
+use mathlib.Core.Path.{_≡_, refl, sym, ap, _∙_, subst, subst₂}
+use mathlib.Core.Bool.{Bool, true, false, cond, _||_}
+use mathlib.Core.Logic.{_⊎_, ⊎-elim}
+use mathlib.Core.List.{[], _∷_, _++_, cons-ne-nil}
+use lib.ListN.{length, getD, set, take, replicate, length-set, length-take, length-replicate, getD-replicate}
+use lib.Seq.{take-suc, take-length, getD-set-same, getD-set-other}
+use Rattle.palindromes.specs.Word.{Word, sameWord, member}
+use Rattle.palindromes.specs.Palindrome.{Symmetric, Palindrome}
+use Rattle.palindromes.specs.Place.{Stands, frequency}
+use Rattle.palindromes.specs.Record.{suffixes, longestSuffix}
+use Rattle.palindromes.specs.Occurrences.{occurrencesByEnd}
+use Rattle.palindromes.specs.Node.{Node, spelt, linkOf, spellingOf}
+use Rattle.palindromes.proofs.Tests.{not-true-false, same-true, same-is}
+use Rattle.palindromes.proofs.Lists.{not-in-nil}
+use Rattle.palindromes.proofs.Words.{suffix-stands, stands-length, stands-of-empty}
+use Rattle.palindromes.proofs.Longest.{longest-suffix}
+use Rattle.palindromes.proofs.Places.{stands-empty}
+use Rattle.palindromes.proofs.Change.{at-most-one-new}
+use Rattle.palindromes.proofs.Growth.{link-stood}
+use Rattle.palindromes.proofs.SuffixPalindromes.{ending-none, ending-longest, ending-link, ending-few, ends-longest, ends-link}
+use Rattle.palindromes.proofs.Frequency.{prefix-frequency, frequency-empty, frequency-most}
+use Rattle.palindromes.proofs.Occurrences.{by-end-empty, prefix-by-end, occurrences-limit}
+use Rattle.eertree.specs.Covers.{NodeOf}
+use Rattle.eertree.proofs.Rows.{empty-row, row-high, word-row}
+use Rattle.store.specs.Layout.{sizeIn, linkIn, usedIn, lettersIn}
+use Rattle.store.specs.Good.{ruleOf, nodeIn, Good}
+use Rattle.store.proofs.Sizes.{letters-length}
+use Rattle.transitions.proofs.Rows.{covers}
+use Rattle.walk.specs.Replay.{endingIn, Holds}
+use Rattle.end_rows.proofs.Numbers.{row-below}
+use Rattle.suffix_palindromes.specs.Handed.{endingWith, chainLength, Handed, Hands}
+
+-- the word that ends the letters read, and the row of its link, which stood before the last letter
+record Linked (b : Word) (k row : ℕ) : Type 0 where
+  first : ℕ
+  rest : Word
+  ends : endingIn b (k + 1) ≡ first ∷ rest
+  symmetric : Symmetric (ruleOf b) (first ∷ rest)
+  used : usedIn b (linkIn b row) ≡ true
+  holds : nodeIn b (linkIn b row) ≡ spelt (longestSuffix (ruleOf b) rest)
+  stood : Stands (longestSuffix (ruleOf b) rest) (take k (lettersIn b))
+
+-- the link of a word that is not empty
+link-of-word : (σ : ℕ → ℕ) (x : ℕ) (t : Word) {n : Node} → n ≡ spelt (x ∷ t) → linkOf σ n ≡ spelt (longestSuffix σ t)
+unfolding linkOf
+link-of-word σ x t e = ap (linkOf σ) e
+
+-- what a node spells
+spells : {n : Node} {w : Word} → n ≡ spelt w → spellingOf n ≡ w
+unfolding spellingOf
+spells e = ap spellingOf e
+
+-- no word ends the empty one
+pub ends-none : (w : Word) → endingWith w [] ≡ 0
+unfolding suffixes
+ends-none w = ap {B = ℕ} (λ (t : Bool). cond t 1 0) (not-in-nil w)
+
+-- nor any palindrome
+pub chain-none : (σ : ℕ → ℕ) → chainLength σ [] ≡ 0
+chain-none σ = ap length (ending-none σ)
+
+module _ {b : Word} (g : Good b) where
+  -- while a letter is left to read, that letter comes next
+  read-size : (k : ℕ) → k < sizeIn b → k < length (lettersIn b)
+  read-size k l = omega (arith, letters-length (g .sized))
+
+  read-more : (k : ℕ) → k < sizeIn b → take (k + 1) (lettersIn b) ≡ take k (lettersIn b) ++ (getD (lettersIn b) k 0 ∷ [])
+  read-more k l = rw (add-one k, take-suc (lettersIn b) k 0 (read-size k l)) refl
+
+  -- ---- the first letter
+
+  -- before it the empty word alone stands
+  pub handed-first : {f : Word → ℕ} {values : Word} → f [] ≡ 0 → values ≡ replicate 1026 0 → Handed b f 0 values
+  handed-first {f} {values} none z =
+      record {
+        long = ap length z ∙ length-replicate {A = ℕ} 1026 0;
+        tells = λ r v u e s. ap (λ (l : Word). getD l r 0) z ∙ getD-replicate 1026 r 0 0 (row-below g r u) ∙ sym (ap f (stands-of-empty s) ∙ none);
+      }
+
+  -- ---- one letter more
+
+  module _ {k row : ℕ} (l : k < sizeIn b) (h : Holds b (k + 1) row) where
+    -- what ends the letters read stands in them
+    ends-in : Stands (endingIn b (k + 1)) (take (k + 1) (lettersIn b))
+    ends-in = suffix-stands (longest-suffix (ruleOf b) (take (k + 1) (lettersIn b)) .suffix)
+
+    -- a palindrome that stands now ends the letters read, or stood before
+    here-or-before : (r : ℕ) (v : Word) → usedIn b r ≡ true → nodeIn b r ≡ spelt v → Stands v (take (k + 1) (lettersIn b)) → (v ≡ endingIn b (k + 1)) ⊎ Stands v (take k (lettersIn b))
+    here-or-before r v u e s =
+        let n : NodeOf (ruleOf b) (lettersIn b) (spelt v) = subst (NodeOf (ruleOf b) (lettersIn b)) e (covers g .each-row r u) in
+        rw (read-more k l) (at-most-one-new (ruleOf b) (take k (lettersIn b)) v (getD (lettersIn b) k 0) (n .0) (rw (read-more k l) at s))
+
+    -- a root's row holds the empty word
+    root-empty : row < 2 → endingIn b (k + 1) ≡ []
+    root-empty m = go (endingIn b (k + 1)) refl
+      where
+        go : (e : Word) → endingIn b (k + 1) ≡ e → e ≡ []
+        go [] q = refl
+        go (x ∷ t) q = absurd (omega (arith, row-high (covers g) row (h .holds ∙ ap spelt q) (cons-ne-nil x t)))
+
+    -- any other row's link was met before
+    linked : 2 ≤ row → Linked b k row
+    linked m = go (endingIn b (k + 1)) refl
+      where
+        go : (e : Word) → endingIn b (k + 1) ≡ e → Linked b k row
+        go [] q = absurd (omega (arith, empty-row (covers g) row (h .used) (h .holds ∙ ap spelt q)))
+        go (x ∷ t) q =
+            let s = subst (Symmetric (ruleOf b)) q (longest-suffix (ruleOf b) (take (k + 1) (lettersIn b)) .symmetric) in
+            let p = covers g .link-is row (h .used) in
+            record {
+              first = x;
+              rest = t;
+              ends = q;
+              symmetric = s;
+              used = p .0;
+              holds = p .1 ∙ link-of-word (ruleOf b) x t (h .holds ∙ ap spelt q);
+              stood = link-stood (ruleOf b) (take k (lettersIn b)) (getD (lettersIn b) k 0) s (subst₂ Stands q (read-more k l) ends-in);
+            }
+
+    -- the row gets the number of its word, and the others keep theirs
+    handed-next : {f : Word → ℕ} {old : Word} → 2 ≤ row → Handed b f k old → Handed b f (k + 1) (set old row (f (endingIn b (k + 1))))
+    handed-next {f} {old} m a = record { long = length-set old row value ∙ a .long; tells = λ r v u e s. go r v u e s (ℕ-discrete r row) }
+      where
+        value : ℕ
+        value = f (endingIn b (k + 1))
+
+        go : (r : ℕ) (v : Word) → usedIn b r ≡ true → nodeIn b r ≡ spelt v → Stands v (take (k + 1) (lettersIn b)) → Dec (r ≡ row) → getD (set old row value) r 0 ≡ f v
+        go r v u e s (yes p) =
+            let n : v ≡ endingIn b (k + 1) = cc (h .holds, e, p) in
+            rw (p, n) (getD-set-same old row value 0 (omega (arith, a .long, row-below g row (h .used))))
+        go r v u e s (no p) =
+            getD-set-other old row r value 0 p
+            ∙ ⊎-elim (λ n. absurd (p (covers g .one-row r row u (h .used) (cc (h .holds, e, n))))) (a .tells r v u e) (here-or-before r v u e s)
+
+    -- where no palindrome ends the letters every number stays
+    handed-root : {f : Word → ℕ} {old : Word} → row < 2 → Handed b f k old → Handed b f (k + 1) old
+    handed-root {f} {old} m a =
+        record {
+          long = a .long;
+          tells = λ r v u e s. a .tells r v u e (⊎-elim (empty v) (λ t. t) (here-or-before r v u e s));
+        }
+      where
+        empty : (v : Word) → v ≡ endingIn b (k + 1) → Stands v (take k (lettersIn b))
+        empty v n = rw (n, root-empty m) (stands-empty (take k (lettersIn b)))
+
+    -- the number of the link
+    link-value : {f : Word → ℕ} {old : Word} (m : 2 ≤ row) → Handed b f k old → getD old (linkIn b row) 0 ≡ f (longestSuffix (ruleOf b) (linked m .rest))
+    link-value m a = let t = linked m in a .tells (linkIn b row) (longestSuffix (ruleOf b) (t .rest)) (t .used) (t .holds) (t .stood)
+
+  -- ---- what a row is handed
+
+  -- a root nothing
+  pub hands-root : {f : Word → ℕ} {row : ℕ} {old : Word} → f [] ≡ 0 → row < 2 → Hands b f row old old 0
+  hands-root {f} none m k l h a = (handed-root l h m a, sym (ap f (root-empty l h m) ∙ none))
+
+  -- any other row what follows from the numbers so far
+  hands-word : {f : Word → ℕ} {row value answer : ℕ} {old : Word} → 2 ≤ row → answer ≡ value
+      → ((k : ℕ) → k < sizeIn b → Holds b (k + 1) row → Handed b f k old → value ≡ f (endingIn b (k + 1))) → Hands b f row old (set old row value) answer
+  hands-word m e is k l h a = let v = is k l h a in (rw v (handed-next l h m a), e ∙ v)
+
+  -- the length of a chain is one more than that of the link's
+  pub chains-word : {row link answer : ℕ} {old : Word} → 2 ≤ row → link ≡ linkIn b row → answer ≡ getD old link 0 + 1
+      → Hands b (chainLength (ruleOf b)) row old (set old row (getD old link 0 + 1)) answer
+  chains-word {row} {link} {answer} {old} m e p =
+      hands-word m p λ k l h a.
+      let t = linked l h m in
+      let c : chainLength (ruleOf b) (endingIn b (k + 1)) ≡ chainLength (ruleOf b) (longestSuffix (ruleOf b) (t .rest)) + 1 =
+      ap (chainLength (ruleOf b)) (t .ends) ∙ ap length (ending-link (ruleOf b) (t .first) (t .rest) (t .symmetric)) ∙ sym (add-one (chainLength (ruleOf b) (longestSuffix (ruleOf b) (t .rest)))) in
+      omega (arith, c, link-value l h m a, ap (λ (r : ℕ). getD old r 0) e)
+
+  -- fewer palindromes than letters end the link, so one more fits
+  pub chain-small : {k row : ℕ} {old : Word} → k < sizeIn b → Holds b (k + 1) row → 2 ≤ row → Handed b (chainLength (ruleOf b)) k old → getD old (linkIn b row) 0 < 65535
+  chain-small {k} {row} l h m a =
+      let t = linked l h m in
+      let v = longestSuffix (ruleOf b) (t .rest) in
+      omega (arith, link-value l h m a, ending-few (ruleOf b) v, stands-length (t .stood), length-take k (lettersIn b), l, g .sized .at-most, g .sized .letters-fit)
+
+  module _ {wanted : ℕ} (u : usedIn b wanted ≡ true) (w : 2 ≤ wanted) where
+    -- the wanted row's palindrome
+    abbrev pub wantedWord : Word
+    wantedWord = spellingOf (nodeIn b wanted)
+
+    wanted-holds : nodeIn b wanted ≡ spelt wantedWord
+    wanted-holds = let p = word-row (covers g) wanted u w in p .1 ∙ ap spelt (sym (spells (p .1)))
+
+    wanted-palindrome : Palindrome (ruleOf b) wantedWord
+    wanted-palindrome = let p = word-row (covers g) wanted u w in subst (Palindrome (ruleOf b)) (sym (spells (p .1))) (p .2)
+
+    -- it ends a word if it is that word, or if it ends that word's link
+    wanted-ends : {k row : ℕ} (l : k < sizeIn b) (h : Holds b (k + 1) row) (m : 2 ≤ row)
+        → endingWith wantedWord (endingIn b (k + 1)) ≡ cond (sameWord wantedWord (endingIn b (k + 1)) || member wantedWord (suffixes (longestSuffix (ruleOf b) (linked l h m .rest)))) 1 0
+    wanted-ends {k} {row} l h m =
+        let t = linked l h m in
+        rw (t .ends) (ap {B = ℕ} (λ (x : Bool). cond x 1 0) (ends-link (ruleOf b) wantedWord wanted-palindrome (t .first) (t .rest) (t .symmetric)))
+
+    -- the wanted row is marked with 1
+    pub marks-wanted : {row value answer : ℕ} {old : Word} → 2 ≤ row → row ≡ wanted → value ≡ 1 → answer ≡ value → Hands b (endingWith wantedWord) row old (set old row value) answer
+    marks-wanted {row} m e p q =
+        hands-word m q λ k l h a.
+        let n : wantedWord ≡ endingIn b (k + 1) = cc (wanted-holds, h .holds, e) in
+        let t = longestSuffix (ruleOf b) (linked l h m .rest) in
+        p ∙ sym (wanted-ends l h m ∙ ap {B = ℕ} (λ (x : Bool). cond (x || member wantedWord (suffixes t)) 1 0) (same-is n))
+
+    -- and any other as its link is
+    pub marks-other : {row link value answer : ℕ} {old : Word} → 2 ≤ row → (row ≡ wanted → ⊥) → link ≡ linkIn b row → value ≡ getD old link 0 → answer ≡ value
+        → Hands b (endingWith wantedWord) row old (set old row value) answer
+    marks-other {row} {link} {value} {answer} {old} m d e p q =
+        hands-word m q λ k l h a.
+        let v = endingIn b (k + 1) in
+        let t = longestSuffix (ruleOf b) (linked l h m .rest) in
+        let other : sameWord wantedWord v ≡ false = not-true-false (sameWord wantedWord v) λ s. d (covers g .one-row row wanted (h .used) u (cc (wanted-holds, h .holds, same-true wantedWord v s))) in
+        p ∙ ap (λ (r : ℕ). getD old r 0) e ∙ link-value l h m a ∙ sym (wanted-ends l h m ∙ ap {B = ℕ} (λ (x : Bool). cond (x || member wantedWord (suffixes t)) 1 0) other)
+
+    -- ---- what is answered adds up
+
+    -- no letter
+    pub frequency-first : frequency wantedWord (take 0 (lettersIn b)) ≡ 0
+    frequency-first = frequency-empty wantedWord (wanted-palindrome .non-empty)
+
+    -- a letter more
+    pub frequency-next : (k : ℕ) → k < sizeIn b → frequency wantedWord (take (k + 1) (lettersIn b)) ≡ frequency wantedWord (take k (lettersIn b)) + endingWith wantedWord (endingIn b (k + 1))
+    frequency-next k l =
+        rw (add-one k)
+        (prefix-frequency wantedWord (wanted-palindrome .non-empty) (lettersIn b) k (read-size k l)
+        ∙ ap (λ (t : Bool). frequency wantedWord (take k (lettersIn b)) + cond t 1 0) (ends-longest (ruleOf b) wantedWord wanted-palindrome (take (suc k) (lettersIn b))))
+
+    -- never more than the letters
+    pub frequency-small : (k : ℕ) → frequency wantedWord (take k (lettersIn b)) ≤ k
+    frequency-small k = omega (arith, frequency-most wantedWord (wanted-palindrome .non-empty) (take k (lettersIn b)), length-take k (lettersIn b))
+
+  -- the same of all palindromes by their ends
+  pub by-end-first : occurrencesByEnd (ruleOf b) (take 0 (lettersIn b)) ≡ 0
+  by-end-first = by-end-empty (ruleOf b)
+
+  pub by-end-next : (k : ℕ) → k < sizeIn b → occurrencesByEnd (ruleOf b) (take (k + 1) (lettersIn b)) ≡ occurrencesByEnd (ruleOf b) (take k (lettersIn b)) + chainLength (ruleOf b) (endingIn b (k + 1))
+  by-end-next k l =
+      rw (add-one k)
+      (prefix-by-end (ruleOf b) (lettersIn b) k (read-size k l)
+      ∙ ap (λ (n : ℕ). occurrencesByEnd (ruleOf b) (take k (lettersIn b)) + n) (ap length (ending-longest (ruleOf b) (take (suc k) (lettersIn b)))))
+
+  pub by-end-small : (k : ℕ) → occurrencesByEnd (ruleOf b) (take k (lettersIn b)) ≤ 524800
+  by-end-small k = occurrences-limit (ruleOf b) (take k (lettersIn b)) (omega (arith, length-take k (lettersIn b), letters-length (g .sized), g .sized .at-most, g .sized .letters-fit))
+
+  -- all letters
+  pub read-whole : (k : ℕ) → k ≡ sizeIn b → take k (lettersIn b) ≡ lettersIn b
+  read-whole k e = rw (e, ← letters-length (g .sized)) (take-length (lettersIn b))
