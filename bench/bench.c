@@ -1,12 +1,12 @@
 /* The benchmark: the library beside its C twin, in one run, on five words and four sizes in either reading, inverted
- * records beside plain ones, turns and the longest length beside length, removals and the longest at an end beside
- * additions, and finding a piece of a million letters beside testing them.
+ * records beside plain ones, turns, frequency, occurrences and the longest length beside length, removals and the longest at an
+ * end beside additions, and finding a piece of a million letters beside testing them.
  *
  * Prints ratios, library over twin, since times of one machine say little; a ratio above the limit is marked with !.
  * The argument names the file that gets the drawing of growth. Ends with 1 if a tested call at 1,000 letters, a fill or
- * reading FASTA is above its limit, or if at 1,000 letters an inverted record beside a plain one, a turn or the longest
- * length beside length, or a removal or the longest at an end beside an addition, takes longer than it may, or a piece of a
- * million letters that breaks at its first pair longer than the test of its letters. */
+ * reading FASTA is above its limit, or if at 1,000 letters an inverted record beside a plain one, a turn, frequency,
+ * occurrences or the longest length beside length, or a removal or the longest at an end beside an addition, takes longer than
+ * it may, or a piece of a million letters that breaks at its first pair longer than the test of its letters. */
 #include <math.h>
 
 #include "calls.h"
@@ -95,9 +95,34 @@ static void measure_calls(size_t n)
             }
 }
 
+/* What a call may take beside length on the same letters, 0 for one that is not held against it. */
+static double length_limit(int call)
+{
+    if (is_turn(call))
+        return TURN_LIMIT;
+    if (is_frequency(call))
+        return FREQUENCY_LIMIT;
+    return call == CALL_OCCURRENCES ? OCCURRENCES_LIMIT : 0;
+}
+
+/* The line below a call that is held against length on the same letters in the reading that the word is made for; how many
+ * ratios are above the limit. Where the record is read the other way it has few rows or none, and the cheapest of tests; that
+ * ratio is shown too and not counted. */
+static int over_length(int call, enum reading reading, enum reading made_for)
+{
+    int first = made_for * WORDS;
+    double limit = length_limit(call);
+    if (limit == 0)
+        return 0;
+    const struct pair *times = &least[call][reading][first];
+    int above = against("  over length", limit, times, &least[CALL_LENGTH][made_for][first]);
+    if (reading != made_for)
+        against("  over length as it is", limit, times, &least[CALL_LENGTH][reading][first]);
+    return above;
+}
+
 /* Every tested call on records of a reading, of the words made for it or for the other; how many ratios are above their
- * limits. A turn is held against length on the same letters in the reading that the word is made for. Where the record is
- * read the other way it has few rows or none, and the cheapest of tests; that ratio is shown too and not counted. */
+ * limits. */
 static int tested_calls(size_t n, enum reading reading, enum reading made_for)
 {
     char title[64];
@@ -107,12 +132,9 @@ static int tested_calls(size_t n, enum reading reading, enum reading made_for)
     for (int c = 0; c < PAIRS; c++) {
         if (!timed(c, first, reading))
             continue;
-        const struct pair *times = &least[c][reading][first], *lengths = least[CALL_LENGTH][made_for] + first;
-        int slow = line(calls[c].name, RATIO_LIMIT, times);
+        int slow = line(calls[c].name, RATIO_LIMIT, &least[c][reading][first]);
         above += c < CALLS ? slow : 0; /* beside a twin that loops it is marked and not counted */
-        above += is_turn(c) ? against("  over length", TURN_LIMIT, times, lengths) : 0;
-        if (is_turn(c) && reading != made_for)
-            against("  over length as it is", TURN_LIMIT, times, least[CALL_LENGTH][reading] + first);
+        above += over_length(c, reading, made_for);
     }
     return above;
 }
@@ -336,22 +358,30 @@ static void measure_growth(int call, int word, double *us)
         }
 }
 
-/* Draws the cost of the addition and of the test against n, and prints how it grows. */
+/* One line: how the cost of a call grows on each word. */
+static void growth_line(int call, double us[WORDS][MOST_POINTS])
+{
+    printf("  %-24s", calls[call].name);
+    for (int w = 0; w < WORDS; w++) {
+        measure_growth(call, w, us[w]);
+        printf("%12.1f ", us[w][POINTS - 1] / us[w][0]);
+    }
+    puts("");
+}
+
+/* Prints how the cost of the addition, of the test and of the counts by place grows, and draws that of the first two against n. */
 static void growth(FILE *out)
 {
     static struct panel panels[2] = {{.title = "add right, tested (microseconds)", .points = POINTS},
                                      {.title = "the test alone (microseconds)", .points = POINTS}};
-    static const int shown[2] = {CALL_ADD_RIGHT, TEST_ALONE};
+    static const int drawn[2] = {CALL_ADD_RIGHT, TEST_ALONE};
+    static double not_drawn[WORDS][MOST_POINTS];
     puts("\nCost at 1,000 letters over cost at 125: 8 times the letters, 6.9 times the bytes of the store");
     heading("", PLAIN);
-    for (int p = 0; p < 2; p++) {
-        printf("  %-24s", calls[shown[p]].name);
-        for (int w = 0; w < WORDS; w++) {
-            measure_growth(shown[p], w, panels[p].at[w]);
-            printf("%12.1f ", panels[p].at[w][POINTS - 1] / panels[p].at[w][0]);
-        }
-        puts("");
-    }
+    for (int p = 0; p < 2; p++)
+        growth_line(drawn[p], panels[p].at);
+    for (int call = CALL_FREQUENCY; call <= CALL_OCCURRENCES; call++)
+        growth_line(call, not_drawn);
     draw(out, panels, 2);
 }
 
@@ -381,8 +411,9 @@ int main(int count, char **arguments)
         return 2;
     }
     printf("Tested calls: microseconds of the library, and their ratio to the twin's; ! where above %.1f\n"
-           "Below a turn its time over that of length on the same letters, in the library and in the twin; ! where above %.1f\n",
-           RATIO_LIMIT, TURN_LIMIT);
+           "Below a turn, frequency and occurrences their time over that of length on the same letters, in the library and in the "
+           "twin; ! where above %.1f, %.1f and %.1f\n",
+           RATIO_LIMIT, TURN_LIMIT, FREQUENCY_LIMIT, OCCURRENCES_LIMIT);
     double test[SIZES][WORDS];
     int above = 0;
     for (int i = 0; i < SIZES; i++) {

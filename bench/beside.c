@@ -37,8 +37,14 @@ static int64_t least[ALL][BOTH_WORDS][2];
 static bool astray[ALL]; /* refused, or a piece found that is absent, or the other way round */
 static volatile uint64_t sink;
 
+/* The row that a library has for a piece of its record. */
+static unsigned row_by(const library *by, const struct sitting *s, const struct piece *piece)
+{
+    return mirror_row_of(by->find(s->store, s->length, piece->letters, piece->length));
+}
+
 /* A record of the word made by a library's own calls, with arguments that make each call work hard: the row and the first piece
- * are those of the longest palindrome. */
+ * are those of the longest palindrome, and the other row is that of the most frequent one. */
 static void make_record(struct sitting *to, const library *by, int word)
 {
     uint8_t letters[LETTERS + 1];
@@ -53,10 +59,12 @@ static void make_record(struct sitting *to, const library *by, int word)
     for (size_t i = 0; i < LETTERS; i++)
         by->add_right(to->store, to->length, letters[i]);
     uint64_t longest = by->longest(to->store, to->length);
-    struct piece *piece = &to->pieces[0];
+    struct piece *piece = &to->pieces[0], often;
     piece->length = mirror_first(longest);
     memcpy(piece->letters, letters + mirror_second(longest), piece->length);
-    to->row = mirror_row_of(by->find(to->store, to->length, piece->letters, piece->length));
+    to->row = row_by(by, to, piece);
+    make_often(&often, word_reading(word), letters, LETTERS);
+    to->often = row_by(by, to, &often);
     make_pieces(to, word_reading(word), LETTERS);
 }
 
@@ -114,6 +122,7 @@ static void measure(int call, int word)
         for (int turn = 0; turn < 2; turn++) {
             int side = (i + turn) % 2;
             s.row = records[side][word].row;
+            s.often = records[side][word].often;
             int64_t took = sample(call, word, side), *to = &least[call][word][side];
             *to = *to == 0 ? took : smaller(*to, took);
         }

@@ -33,6 +33,9 @@ BOTH(longest_length, (s->store, s->length))
 BOTH(longest_left, (s->store, s->length))
 BOTH(longest_right, (s->store, s->length))
 BOTH(row, (s->store, s->length, s->row))
+BOTH(frequency, (s->store, s->length, s->row))
+BOTH_AS(frequency_often, frequency, (s->store, s->length, s->often))
+BOTH(occurrences, (s->store, s->length))
 BOTH(spell, (s->store, s->length, s->row, s->out, s->out_length))
 BOTH(list, (s->store, s->length, NAME, s->scratch, s->scratch_length, s->out, s->out_length))
 
@@ -50,7 +53,7 @@ static uint64_t spell_by_loop(struct sitting *s)
 }
 
 #define CALL(name, changes) {#name, changes, library_##name, twins_##name}
-#define ABSENT(id, name) {name, false, library_##id, twins_##id}
+#define ASKED_AS(id, name) {name, false, library_##id, twins_##id}
 
 const struct call calls[PAIRS] = {
     [CALL_OPEN] = CALL(open, true),
@@ -69,12 +72,15 @@ const struct call calls[PAIRS] = {
     [CALL_LONGEST_LEFT] = CALL(longest_left, false),
     [CALL_LONGEST_RIGHT] = CALL(longest_right, false),
     [CALL_ROW] = CALL(row, false),
+    [CALL_FREQUENCY] = CALL(frequency, false),
+    [CALL_FREQUENCY_OFTEN] = ASKED_AS(frequency_often, "frequency, often"),
+    [CALL_OCCURRENCES] = CALL(occurrences, false),
     [CALL_SPELL] = CALL(spell, false),
     [CALL_FIND] = CALL(find, false),
-    [CALL_FIND_OUTSIDE] = ABSENT(find_outside, "find, breaks at 1"),
-    [CALL_FIND_INSIDE] = ABSENT(find_inside, "find, breaks inside"),
-    [CALL_FIND_ALIKE] = ABSENT(find_alike, "find, absent alike"),
-    [CALL_FIND_LONGER] = ABSENT(find_longer, "find, longer"),
+    [CALL_FIND_OUTSIDE] = ASKED_AS(find_outside, "find, breaks at 1"),
+    [CALL_FIND_INSIDE] = ASKED_AS(find_inside, "find, breaks inside"),
+    [CALL_FIND_ALIKE] = ASKED_AS(find_alike, "find, absent alike"),
+    [CALL_FIND_LONGER] = ASKED_AS(find_longer, "find, longer"),
     [CALL_LIST] = CALL(list, false),
     [CALL_SPELL_BY_LOOP] = {"spell, twin loops", false, library_spell, spell_by_loop},
 };
@@ -87,6 +93,31 @@ static unsigned longest_row(const uint8_t *b)
         if (get(b, r, LENGTH) > get(b, best, LENGTH))
             best = r;
     return best;
+}
+
+/* At how many places a piece stands among n letters. */
+static size_t places_of(const struct piece *piece, const uint8_t *letters, size_t n)
+{
+    size_t places = 0;
+    for (size_t i = 0; i + piece->length <= n; i++)
+        places += memcmp(letters + i, piece->letters, piece->length) == 0;
+    return places;
+}
+
+size_t make_often(struct piece *to, int reading, const uint8_t *letters, size_t n)
+{
+    size_t most = 0;
+    to->length = 0;
+    for (const char *letter = "ACGT"; *letter; letter++) {
+        uint8_t last = (uint8_t)*letter;
+        struct piece shortest = {.letters = {partner_tables[reading][last], last}, .length = reading == PLAIN ? 1 : 2};
+        size_t places = places_of(&shortest, letters, n);
+        if (places > most) {
+            most = places;
+            *to = shortest;
+        }
+    }
+    return most;
 }
 
 void make_alike(struct piece *to, int reading, size_t n)
@@ -120,6 +151,14 @@ unsigned broken_pair(int find, size_t n)
     return find == CALL_FIND_OUTSIDE ? n >= 2 : find == CALL_FIND_INSIDE ? (unsigned)(n / 2) : 0;
 }
 
+/* The row of the most frequent palindrome, 0 where there is none. */
+static unsigned often_row(const struct sitting *s, int reading)
+{
+    struct piece often;
+    make_often(&often, reading, letters_of(s->store), size_of(s->store));
+    return twin_find(s->store, s->length, often.letters, often.length) >> 16 & 0xffff;
+}
+
 void seat(struct sitting *s, int word, int reading, size_t n, size_t capacity)
 {
     uint8_t letters[CAPACITY_MOST + 1];
@@ -138,5 +177,6 @@ void seat(struct sitting *s, int word, int reading, size_t n, size_t capacity)
     s->row = longest_row(s->store);
     uint64_t spelt = twin_spell(s->store, s->length, s->row, s->pieces[0].letters, PIECE_MOST);
     s->pieces[0].length = spelt >> 32 & 0xffff;
+    s->often = often_row(s, reading);
     make_pieces(s, reading, n);
 }

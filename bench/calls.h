@@ -16,7 +16,8 @@ enum { SCRATCH_MOST = 4 * CAPACITY_MOST, SCRATCH_PAINT = 0xa5, PIECE_MOST = CAPA
 
 /* The calls in the order of their table, and last the spelling call once more beside a twin that loops instead of
  * recursing. Both openings stand first, so that CALL_OPEN + reading gives that reading; CALL_TURN_PLAIN + reading turns
- * to it. Finding stands there five times: the longest palindrome, and four pieces that are absent (make_pieces). */
+ * to it. Frequency stands there twice: the row of the longest palindrome, and that of the most frequent one. Finding stands
+ * there five times: the longest palindrome, and four pieces that are absent (make_pieces). */
 enum {
     CALL_OPEN,
     CALL_OPEN_INVERTED,
@@ -34,6 +35,9 @@ enum {
     CALL_LONGEST_LEFT,
     CALL_LONGEST_RIGHT,
     CALL_ROW,
+    CALL_FREQUENCY,
+    CALL_FREQUENCY_OFTEN,
+    CALL_OCCURRENCES,
     CALL_SPELL,
     CALL_FIND,
     CALL_FIND_OUTSIDE,
@@ -57,7 +61,7 @@ struct sitting {
     uint8_t store[STORE_MOST], scratch[SCRATCH_MOST], out[OUT_MOST];
     struct piece pieces[FINDS];
     size_t length, scratch_length, out_length;
-    uint64_t capacity, letter, place, row;
+    uint64_t capacity, letter, place, row, often;
 };
 
 struct call {
@@ -80,6 +84,8 @@ static inline bool opens_otherwise(int call, int reading)
 
 static inline bool is_turn(int call) { return call == CALL_TURN_PLAIN || call == CALL_TURN_INVERTED; }
 
+static inline bool is_frequency(int call) { return call == CALL_FREQUENCY || call == CALL_FREQUENCY_OFTEN; }
+
 static inline bool is_find(int call) { return call >= CALL_FIND && call < CALL_FIND + FINDS; }
 
 /* A piece of n letters that reads alike, but for the middle letter of an odd one in an inverted record. In its centre a G faces
@@ -97,9 +103,14 @@ void make_pieces(struct sitting *s, int reading, size_t n);
 /* The pair that breaks in the piece of a find on a record of n letters, 0 for none. */
 unsigned broken_pair(int find, size_t n);
 
+/* The palindrome that stands most often among n letters, and at how many places; of length 0 where none stands. What lies in the
+ * middle of a palindrome stands as often as it or more, so the shortest are enough: single letters, and pairs in an inverted
+ * record. */
+size_t make_often(struct piece *to, int reading, const uint8_t *letters, size_t n);
+
 /* A record of n letters of a word in a reading, 0 or 1, at the given capacity, with arguments that make each call work
- * hard: the row and the first piece are those of the longest palindrome. The scratch is painted, so that it shows what a call
- * clears there. */
+ * hard: the row and the first piece are those of the longest palindrome; `often` is the row of the most frequent one. The
+ * scratch is painted, so that it shows what a call clears there. */
 void seat(struct sitting *s, int word, int reading, size_t n, size_t capacity);
 
 #endif

@@ -5,6 +5,7 @@
 #ifndef BENCH_CELLS_H
 #define BENCH_CELLS_H
 
+#include <stdbool.h>
 #include <stddef.h>
 #include <stdint.h>
 #include <string.h>
@@ -54,6 +55,14 @@ static inline void set_end_row(uint8_t *b, enum side side, unsigned r) { put(b, 
 static inline const uint8_t *letters_of(const uint8_t *b) { return b + ROW_BYTES * ((size_t)capacity_of(b) + 2); }
 /* Chosen once for each call: no comparison asks for the reading again. */
 static inline const uint8_t *partners_of(const uint8_t *b) { return partner_tables[reading_of(b)]; }
+
+/* Whether a number is that of a palindrome's row, and whether it is that or a root's. */
+static inline bool holds_palindrome(const uint8_t *b, uint64_t row)
+{
+    return row > EMPTY && row < (uint64_t)capacity_of(b) + 2 && get(b, row, RANK) < count_of(b);
+}
+
+static inline bool row_used(const uint8_t *b, uint64_t row) { return row <= EMPTY || holds_palindrome(b, row); }
 
 static inline unsigned edge_of(const uint8_t *b, size_t row, uint8_t letter)
 {

@@ -1,10 +1,10 @@
 /* Whether the twin does the library's work: a benchmark of two programs that answer differently is worthless.
  *
  * Every call on every word in either reading, pieces to find that are repeats, nearly are, read alike and are absent or are
- * longer than the record, lists with scratch about the need, long random sittings from both ends, some with turns, full records
- * of every word taken away letter by letter, and damaged stores, in some of which a carried number alone is untrue, go through
- * both, and every answer and every lent byte must agree. Prints how many calls were compared, and ends with 1 at the first
- * difference. */
+ * longer than the record, frequencies of every row and of numbers that are none, lists with scratch about the need, long random
+ * sittings from both ends, some with turns, full records of every word taken away letter by letter, and damaged stores, in some of
+ * which a carried number alone is untrue, go through both, and every answer and every lent byte must agree. Prints how many calls
+ * were compared, and ends with 1 at the first difference. */
 #include <stdio.h>
 #include <stdlib.h>
 #include <string.h>
@@ -52,6 +52,13 @@ static void compare_ends(const char *where)
     compare(&calls[CALL_LONGEST_RIGHT], where);
 }
 
+/* How often two rows' palindromes stand, and all of them. */
+static void compare_counts(const char *where)
+{
+    for (int i = CALL_FREQUENCY; i <= CALL_OCCURRENCES; i++)
+        compare(&calls[i], where);
+}
+
 /* The list, with scratch that is not clear. */
 static void compare_list(const char *where)
 {
@@ -66,6 +73,7 @@ static void compare_damaged(const char *where)
     refused += compare(&calls[CALL_LENGTH], where) == 3;
     compare(&calls[CALL_LONGEST_LENGTH], where);
     compare_ends(where);
+    compare_counts(where);
     compare(&calls[CALL_REMOVE_LEFT], where);
     compare(&calls[CALL_REMOVE_RIGHT], where);
     compare_turns(where);
@@ -192,12 +200,15 @@ static void around_length(enum reading reading, size_t length)
     compare_piece(&broken, "a piece with a byte that is no letter");
 }
 
+/* A capacity for n letters that leaves some rows free, where it can. */
+static size_t roomy(size_t n) { return n + n / 8 + 3 < CAPACITY_MOST ? n + n / 8 + 3 : CAPACITY_MOST; }
+
 /* Finding in a record of n letters of a word: about 50 of its repeats and what is near them, then pieces of few letters, and of
  * about as many as the record has. */
 static void finds(int word, enum reading reading, size_t n)
 {
     uint32_t seed = (uint32_t)word + 1;
-    seat(&here, word, reading, n, n + n / 8 + 3 < CAPACITY_MOST ? n + n / 8 + 3 : CAPACITY_MOST);
+    seat(&here, word, reading, n, roomy(n));
     there = here;
     unsigned rows = count_of(here.store), each = rows / 50 + 1;
     for (unsigned rank = 0; rank < rows; rank += each)
@@ -239,6 +250,59 @@ static void all_finds(enum reading reading)
     long_piece(reading, LONG_PIECE / 2);
 }
 
+/* The frequency of a row number; 0 where it is refused, which must be with 7. */
+static unsigned compare_frequency(uint64_t row)
+{
+    here.row = there.row = row;
+    uint64_t told = compare(&calls[CALL_FREQUENCY], "the frequency of a row");
+    if (told == 7 || (told != 0 && told == answer(false, 0, mirror_first(told), 0)))
+        return mirror_first(told);
+    printf("bench/same: frequency of row %llu answers %016llx\n", (unsigned long long)row, (unsigned long long)told);
+    exit(1);
+}
+
+/* Numbers that no row has, though the low bits are those of row 2; how many places they come to, which must be none. */
+static unsigned beyond_rows(void)
+{
+    unsigned sum = 0;
+    for (int bits = 16; bits < 64; bits++)
+        sum += compare_frequency(UINT64_C(1) << bits | 2);
+    return sum;
+}
+
+/* The frequency of every row of a record of n letters, and of numbers beyond the last: their sum is what occurrences tells in two
+ * ways. The row that is timed as the most frequent one is that, or its name in the tables would be untrue. */
+static void frequencies(int word, enum reading reading, size_t n)
+{
+    struct piece often;
+    unsigned sum = 0, most = 0;
+    seat(&here, word, reading, n, roomy(n));
+    there = here;
+    for (uint64_t row = 0; row < here.capacity + 5; row++) {
+        unsigned frequency = compare_frequency(row);
+        sum += frequency;
+        most = frequency > most ? frequency : most;
+    }
+    sum += beyond_rows();
+    uint64_t all = compare(&calls[CALL_OCCURRENCES], "all by place");
+    unsigned timed = mirror_first(compare(&calls[CALL_FREQUENCY_OFTEN], "the most frequent"));
+    if (mirror_by_rows(all) == sum && mirror_by_ends(all) == sum && timed == most
+        && make_often(&often, reading, letters_of(here.store), n) == most)
+        return;
+    printf("bench/same: %s of %zu letters: frequencies come to %u and occurrences to %016llx, the largest is %u and the timed one "
+           "%u\n", word_names[word], n, sum, (unsigned long long)all, most, timed);
+    exit(1);
+}
+
+/* Frequencies in records of every word. */
+static void all_frequencies(enum reading reading)
+{
+    static const size_t sizes[] = {0, 1, 2, 9, 60, 125, 250, 1000, 1024};
+    for (int word = 0; word < ALL_WORDS; word++)
+        for (size_t i = 0; i < sizeof sizes / sizeof *sizes; i++)
+            frequencies(word, reading, sizes[i]);
+}
+
 /* The inputs that the benchmark times, and the largest records; each word in both readings, since one that was made for
  * the other has few repeats or none. */
 static void on_words(enum reading reading)
@@ -277,6 +341,13 @@ static void draw_pieces(uint32_t r)
     memcpy(there.pieces, pieces, sizeof there.pieces);
 }
 
+/* The row at some place of the order, and 0 where no row is in use. */
+static unsigned draw_row(uint32_t r)
+{
+    unsigned rows = count_of(here.store);
+    return rows == 0 ? 0 : get(here.store, r % rows + 2, ORDER);
+}
+
 /* What a sitting does at a step: it adds and removes at both ends, with a question now and then, and a turn, which may be
  * to the reading in force, where it turns at all. */
 static int next_call(uint32_t r, int step, bool turning)
@@ -300,22 +371,26 @@ static void sitting(uint32_t seed, enum reading reading, size_t capacity, const 
         uint32_t r = next_random(&seed) >> 8;
         here.letter = there.letter = (uint64_t)letters[r % strlen(letters)];
         here.row = there.row = r / 7 % (capacity + 3);
+        here.often = there.often = draw_row(r / 17);
         here.place = there.place = r / 11 % (capacity + 1);
         draw_pieces(r / 13);
         compare(&calls[next_call(r, i, turning)], turning ? "a sitting that turns" : "a sitting");
     }
 }
 
-/* A full record of a word taken away at either end by chance, with both ends asked at every letter, and a list at every eighth:
- * what is removed leaves ranks to other rows, so that these come in no order. */
+/* A full record of a word taken away at either end by chance, with both ends asked at every letter, and the counts by place and
+ * a list at every eighth: what is removed leaves ranks to other rows, so that these come in no order. */
 static void taken_away(uint32_t seed, int word, enum reading reading)
 {
     seat(&here, word, reading, CAPACITY_MOST, CAPACITY_MOST);
     there = here;
     while (size_of(here.store) > 0) {
         compare_ends(word_names[word]);
-        if (size_of(here.store) % 8 == 0)
+        if (size_of(here.store) % 8 == 0) {
+            here.often = there.often = draw_row(seed >> 8);
+            compare_counts(word_names[word]);
             compare_list(word_names[word]);
+        }
         compare(&calls[CALL_REMOVE_LEFT + (int)(next_random(&seed) >> 31)], word_names[word]);
     }
 }
@@ -402,6 +477,7 @@ int main(void)
     for (int reading = PLAIN; reading <= INVERTED; reading++) {
         on_words(reading);
         all_finds(reading);
+        all_frequencies(reading);
         for (int word = 0; word < ALL_WORDS; word++) {
             lists(word, reading);
             taken_away((uint32_t)word + 1, word, reading);

@@ -2,7 +2,7 @@
  * changed is looked up afterwards; a call of an empty function is taken off. The records are full ones of 1,024
  * letters in either reading, a letter less for additions, where spelling and finding have the longest palindrome there is,
  * the list the most lines and a turn the most letters to set aside. What the list takes beyond length, which is the test and one
- * read, is told too. Ends with 1 if a call takes more than 64 KiB. */
+ * read, is told too. Ends with 1 if a call takes more than 64 KiB, or frequency or occurrences more than 8. */
 #include <stdio.h>
 #include <string.h>
 #include <ucontext.h>
@@ -11,7 +11,7 @@
 #include "calls.h"
 #include "words.h"
 
-enum { STACK = 1 << 20, PAINT = 0xa5, LIMIT = 64 * 1024 };
+enum { STACK = 1 << 20, PAINT = 0xa5, LIMIT = 64 * 1024, COUNTS_LIMIT = 8 * 1024 };
 
 static uint8_t stack[STACK];
 static struct sitting s, before;
@@ -74,6 +74,21 @@ static size_t most_of(int call, int *word)
     return most;
 }
 
+static size_t limit_of(int call) { return is_frequency(call) || call == CALL_OCCURRENCES ? COUNTS_LIMIT : LIMIT; }
+
+/* The line of a call: the most that it takes, and on which word; whether that is too much. */
+static bool line(int call, size_t most, int word)
+{
+    size_t limit = limit_of(call);
+    printf("  %-24s%8zu  %s%s", calls[call].name, most, word_names[word], word_reading(word) ? ", inverted" : "");
+    if (most == 0)
+        printf("  refused!");
+    if (most > limit)
+        printf("  above %zu KiB!", limit / 1024);
+    puts("");
+    return most == 0 || most > limit;
+}
+
 int main(void)
 {
     int bad = 0;
@@ -81,10 +96,8 @@ int main(void)
     puts("\nStack of each call, bytes, and the word that takes most");
     for (int call = 0; call < CALLS; call++) {
         int word = 0;
-        size_t most = of_call[call] = most_of(call, &word);
-        bad += most == 0 || most > LIMIT;
-        printf("  %-24s%8zu  %s%s%s\n", calls[call].name, most, word_names[word], word_reading(word) ? ", inverted" : "",
-               most == 0 ? "  refused!" : most > LIMIT ? "  above 64 KiB!" : "");
+        of_call[call] = most_of(call, &word);
+        bad += line(call, of_call[call], word);
     }
     printf("  %-24s%+8td\n", "list, over length", (ptrdiff_t)of_call[CALL_LIST] - (ptrdiff_t)of_call[CALL_LENGTH]);
     size_t empty = depth_of(nothing), fasta = depth_of(read_fasta) - empty;

@@ -38,6 +38,8 @@ uint64_t twin_longest_left(const uint8_t *store, size_t length);
 uint64_t twin_longest_right(const uint8_t *store, size_t length);
 uint64_t twin_letter(const uint8_t *store, size_t length, uint64_t place);
 uint64_t twin_row(const uint8_t *store, size_t length, uint64_t row);
+uint64_t twin_frequency(const uint8_t *store, size_t length, uint64_t row);
+uint64_t twin_occurrences(const uint8_t *store, size_t length);
 uint64_t twin_spell(const uint8_t *store, size_t length, uint64_t row, uint8_t *out, size_t out_length);
 /* Spelling as a C programmer would write it who is free to: no recursion. */
 uint64_t twin_spell_by_loop(const uint8_t *store, size_t length, uint64_t row, uint8_t *out, size_t out_length);

@@ -59,11 +59,6 @@ static uint64_t longest_at(const uint8_t *store, size_t length, enum side side)
 uint64_t twin_longest_left(const uint8_t *store, size_t length) { return longest_at(store, length, LEFT); }
 uint64_t twin_longest_right(const uint8_t *store, size_t length) { return longest_at(store, length, RIGHT); }
 
-static bool row_used(const uint8_t *b, uint64_t row)
-{
-    return row < 2 || (row < (uint64_t)capacity_of(b) + 2 && get(b, row, RANK) < count_of(b));
-}
-
 uint64_t twin_row(const uint8_t *store, size_t length, uint64_t row)
 {
     if (!twin_is_good(store, length))

@@ -136,6 +136,15 @@ static void say_row(const struct line *l, uint64_t answer)
     printf("length %d, link %u, inner %u", mirror_signed_first(answer), mirror_row_of(answer), mirror_second(answer));
 }
 
+static uint64_t make_frequency(const struct line *l) { return mirror_frequency(store, sizeof store, l->number); }
+static uint64_t make_occurrences(const struct line *l) { return (void)l, mirror_occurrences(store, sizeof store); }
+
+static void say_occurrences(const struct line *l, uint64_t answer)
+{
+    (void)l;
+    printf("%u by rows, %u by ends", mirror_by_rows(answer), mirror_by_ends(answer));
+}
+
 static uint64_t make_spell(const struct line *l) { return spell(l->number); }
 
 static void say_spell(const struct line *l, uint64_t answer)
@@ -193,8 +202,10 @@ static const struct form forms[] = {
     {"count", NOTHING, "count", make_count, say_number},
     {"longest", MAYBE_END, "longest, longest left, longest right", make_longest, say_longest},
     {"longest-length", NOTHING, "longest-length", make_longest_length, say_number},
+    {"occurrences", NOTHING, "occurrences", make_occurrences, say_occurrences},
     {"letter", NUMBER, "letter PLACE", make_letter, say_letter},
     {"row", NUMBER, "row ROW", make_row, say_row},
+    {"frequency", NUMBER, "frequency ROW", make_frequency, say_number},
     {"spell", NUMBER, "spell ROW", make_spell, say_spell},
     {"find", MAYBE_TEXT, "find PIECE", make_find, say_find},
     {"list", MAYBE_TEXT, "list IDENTIFIER", make_list, say_list},

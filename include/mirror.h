@@ -9,8 +9,9 @@
  * with every letter replaced by its partner, A with T and C with G, as restriction sites do.
  *
  * Every call answers one number: byte 0 (lowest) is the refusal number, 0 where the call was carried out; byte 1 a
- * flag; bytes 2 and 3 a row; bytes 4 and 5 a first, bytes 6 and 7 a second number. A refusal is its number and zero
- * above, and leaves every lent byte as it was. docs/HOST.md says which call answers what. */
+ * flag; bytes 2 and 3 a row; bytes 4 and 5 a first, bytes 6 and 7 a second number. The two sums of mirror_occurrences alone
+ * are laid out otherwise. A refusal is its number and zero above, and leaves every lent byte as it was. docs/HOST.md says
+ * which call answers what. */
 #ifndef MIRROR_H
 #define MIRROR_H
 
@@ -35,7 +36,7 @@ enum {
     MIRROR_NO_LETTER = 4,   /* not A, C, G, T; FASTA: nor a, c, g, t */
     MIRROR_FULL = 5,        /* record full; FASTA: over 1,024 letters */
     MIRROR_EMPTY = 6,       /* record empty */
-    MIRROR_NO_PLACE = 7,    /* place not in record; row free or over capacity + 1 */
+    MIRROR_NO_PLACE = 7,    /* place not in record; row free or over capacity + 1; frequency: row 0 or 1 too */
     MIRROR_NO_PIECE = 8,    /* piece empty */
     MIRROR_NO_ROOM = 9,     /* buffer shorter than needed */
     MIRROR_IDENTIFIER = 10, /* identifier not 1 to 32 letters, digits or underscores; FASTA: first line not right */
@@ -70,6 +71,13 @@ uint64_t mirror_longest_left(const uint8_t *store, size_t length);
 uint64_t mirror_longest_right(const uint8_t *store, size_t length);
 uint64_t mirror_letter(const uint8_t *store, size_t length, uint64_t place);
 uint64_t mirror_row(const uint8_t *store, size_t length, uint64_t row);
+/* The number of places where a row's repeat stands, places that overlap among them. Rows 0 and 1 hold no repeat and are
+ * refused with 7 as free rows are. */
+uint64_t mirror_frequency(const uint8_t *store, size_t length, uint64_t row);
+/* The number of all repeats counted by place, worked out in two ways, each a number of three bytes: mirror_by_rows is the sum of
+ * the rows' frequencies, mirror_by_ends the sum over the right ends of the repeats that end there. The two are equal, and at
+ * most 524,800; 0 for a record without a repeat. */
+uint64_t mirror_occurrences(const uint8_t *store, size_t length);
 uint64_t mirror_spell(const uint8_t *store, size_t length, uint64_t row, uint8_t *out, size_t out_length);
 /* Whether a piece is a repeat of the record, and its row; and as the first number where it and its reversal disagree first: the
  * pair of letters as far from the two ends, counted from the outside from 1, 0 where all agree, and 65,535 for that pair and
@@ -93,6 +101,9 @@ static inline unsigned mirror_first(uint64_t answer) { return (unsigned)(answer 
 static inline unsigned mirror_second(uint64_t answer) { return (unsigned)(answer >> 48); }
 /* The signed length in the answer of mirror_row: -1 for row 0. */
 static inline int mirror_signed_first(uint64_t answer) { return (int16_t)(answer >> 32 & 0xffff); }
+/* The two sums in the answer of mirror_occurrences, which has no other fields: bytes 2 to 4, and 5 to 7. */
+static inline uint32_t mirror_by_rows(uint64_t answer) { return (uint32_t)(answer >> 16 & 0xffffff); }
+static inline uint32_t mirror_by_ends(uint64_t answer) { return (uint32_t)(answer >> 40); }
 
 #ifdef __cplusplus
 }

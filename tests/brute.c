@@ -83,6 +83,39 @@ size_t brute_left(const unsigned char *rule, const unsigned char *s, size_t n)
     return 0;
 }
 
+size_t brute_suffixes(const unsigned char *rule, const unsigned char *s, size_t n)
+{
+    size_t found = 0;
+    for (size_t start = 0; start < n; start++) found += (size_t)brute_palindrome(rule, s + start, n - start);
+    return found;
+}
+
+size_t brute_prefixes(const unsigned char *rule, const unsigned char *s, size_t n)
+{
+    size_t found = 0;
+    for (size_t end = 1; end <= n; end++) found += (size_t)brute_palindrome(rule, s, end);
+    return found;
+}
+
+size_t brute_by_words(const unsigned char *rule, const unsigned char *s, size_t n)
+{
+    size_t sum = 0, first;
+    for (size_t start = 0; start < n; start++)
+        for (size_t end = start + 1; end <= n; end++) {
+            const unsigned char *w = s + start;
+            if (!brute_palindrome(rule, w, end - start) || brute_first(w, end - start, s, n) != start) continue;
+            sum += brute_places(w, end - start, s, n, &first);
+        }
+    return sum;
+}
+
+size_t brute_by_ends(const unsigned char *rule, const unsigned char *s, size_t n)
+{
+    size_t sum = 0;
+    for (size_t end = 1; end <= n; end++) sum += brute_suffixes(rule, s, end);
+    return sum;
+}
+
 size_t brute_steps(const unsigned char *rule, const unsigned char *s, size_t n, unsigned char c)
 {
     size_t passed = 0;

@@ -28,6 +28,13 @@ stretch brute_longest(const unsigned char *rule, const unsigned char *s, size_t 
 /* The length of the longest palindrome at the right and at the left end. */
 size_t brute_right(const unsigned char *rule, const unsigned char *s, size_t n);
 size_t brute_left(const unsigned char *rule, const unsigned char *s, size_t n);
+/* How many palindromes stand at the right and at the left end. */
+size_t brute_suffixes(const unsigned char *rule, const unsigned char *s, size_t n);
+size_t brute_prefixes(const unsigned char *rule, const unsigned char *s, size_t n);
+/* All palindromes of s counted by place, in two ways: each distinct one as often as it stands, and at each right end as many as
+ * end there. */
+size_t brute_by_words(const unsigned char *rule, const unsigned char *s, size_t n);
+size_t brute_by_ends(const unsigned char *rule, const unsigned char *s, size_t n);
 /* How many are passed before the first that has the partner of c just to its left: the palindromes that end s, longest first,
  * then the empty word, then the imaginary one, which always serves. */
 size_t brute_steps(const unsigned char *rule, const unsigned char *s, size_t n, unsigned char c);

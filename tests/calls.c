@@ -17,8 +17,10 @@ uint64_t call_make(const library *of, uint8_t *store, size_t length, const call 
     case LONGEST_LENGTH: return of->longest_length(store, length);
     case LONGEST_LEFT: return of->longest_left(store, length);
     case LONGEST_RIGHT: return of->longest_right(store, length);
+    case OCCURRENCES: return of->occurrences(store, length);
     case LETTER: return of->letter(store, length, c->number);
     case ROW: return of->row(store, length, c->number);
+    case FREQUENCY: return of->frequency(store, length, c->number);
     case SPELL: return of->spell(store, length, c->number, lent->out, c->out_length);
     case FIND: return of->find(store, length, lent->text, c->text_length);
     default: return of->list(store, length, lent->text, c->text_length, lent->scratch, c->scratch_length, lent->out, c->out_length);

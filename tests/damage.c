@@ -65,7 +65,8 @@ static void every_call(void)
     unsigned row = random_below((unsigned)shows.capacity + 3), letter = (unsigned)"ACGT"[random_below(4)];
     size_t out = 64 * 1024 - random_below(2), scratch = layout_scratch(shows.size);
     for (call_kind kind = ADD_LEFT; kind < CALL_KINDS; kind++) {
-        call c = {kind, kind == LETTER ? random_below((unsigned)shows.size + 1) : kind == ROW || kind == SPELL ? row : letter, NULL, 0, 0, 0};
+        int of_row = kind == ROW || kind == FREQUENCY || kind == SPELL;
+        call c = {kind, kind == LETTER ? random_below((unsigned)shows.size + 1) : of_row ? row : letter, NULL, 0, 0, 0};
         if (kind == FIND) c.text = piece, c.text_length = 1 + random_below(4);
         if (kind == SPELL) c.out_length = shows.size + random_below(3);
         if (kind == LIST) c.text = name, c.text_length = 5, c.scratch_length = scratch + random_below(3), c.out_length = out;

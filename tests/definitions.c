@@ -1,7 +1,8 @@
 /* The definitions, through the proved functions of the crate reference, against the program that tries every stretch:
  * every word of up to six letters over ACGT, then random and structured records, under the plain and the inverted rule
- * and under a third self-inverse rule (A with C, G and T by themselves). Where a word and its reversal disagree first is also
- * held against a loop of its own, for tables of partners of any length and content and words of any bytes. */
+ * and under a third self-inverse rule (A with C, G and T by themselves); the frequencies of a record's palindromes add up to how
+ * many end at its right ends. Where a word and its reversal disagree first is also held against a loop of its own, for tables of
+ * partners of any length and content and words of any bytes. */
 #include "brute.h"
 #include <stdint.h>
 #include <stdio.h>
@@ -41,7 +42,7 @@ static void record(int which, bytes s, size_t n)
 {
     bytes rule = rules[which];
     static stretch list[2048];
-    size_t count = brute_list(rule, s, n, list), first;
+    size_t count = brute_list(rule, s, n, list), first, by_place = 0;
     stretch longest = brute_longest(rule, s, n);
 
     same("count", which, s, n, count, reference_count(rule, 256, s, n));
@@ -58,13 +59,16 @@ static void record(int which, bytes s, size_t n)
         same("place in the list", which, s, n, list[k].start, reference_nth_place(rule, 256, s, n, k));
         same("link", which, p, m, brute_link(rule, p, m), reference_link_length(rule, 256, p, m));
         same("frequency", which, s, n, places, reference_frequency(p, m, s, n));
+        by_place += reference_frequency(p, m, s, n);
         same("once only", which, s, n, places == 1, reference_stands_once(p, m, s, n));
         same("first place", which, s, n, first, reference_first_place(p, m, s, n));
     }
+    same("all by place", which, s, n, brute_by_ends(rule, s, n), by_place);
     same("past the list", which, s, n, 0, reference_nth_length(rule, 256, s, n, count));
     /* a piece that need not stand, nor be a palindrome */
     unsigned char piece[3] = {"ACGT"[n % 4], "ACGT"[count % 4], "ACGT"[(n / 4) % 4]};
     same("stands", which, s, n, brute_places(piece, 3, s, n, &first) > 0, reference_stands(piece, 3, s, n));
+    same("frequency of a piece", which, s, n, brute_places(piece, 3, s, n, &first), reference_frequency(piece, 3, s, n));
 }
 
 static uint64_t state;

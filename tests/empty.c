@@ -31,8 +31,10 @@ static void no_store(uint8_t *p)
     must("longest_length", mirror_longest_length(p, 0), MIRROR_DAMAGED);
     must("longest_left", mirror_longest_left(p, 0), MIRROR_DAMAGED);
     must("longest_right", mirror_longest_right(p, 0), MIRROR_DAMAGED);
+    must("occurrences", mirror_occurrences(p, 0), MIRROR_DAMAGED);
     must("letter", mirror_letter(p, 0, 0), MIRROR_DAMAGED);
     must("row", mirror_row(p, 0, 0), MIRROR_DAMAGED);
+    must("frequency", mirror_frequency(p, 0, 0), MIRROR_DAMAGED);
     must("spell", mirror_spell(p, 0, 1, p, 0), MIRROR_DAMAGED);
     must("find", mirror_find(p, 0, p, 0), MIRROR_DAMAGED);
     must("list", mirror_list(p, 0, p, 0, p, 0, p, 0), MIRROR_DAMAGED);

@@ -2,8 +2,8 @@
  * here only; the starred ones are proved (crates/known_answers) and run here too, at several capacities and built from either end.
  * A key is compared as it stands in the table, and no other program is asked. Beside the table: small letters are refused,
  * the keys of inverted records that 02 (vi) and source 004 have, records that are turned, 02 (vii), how many repeats of each
- * length a store carries, 02 (ii), what additions report of their search, 02 (xiii), where a piece breaks, 02 (x), and how much
- * scratch the list takes, 02 (ix). Keys that ask for no repeat are run with either opening. */
+ * length a store carries, 02 (ii), what additions report of their search, 02 (xiii), where a piece breaks, 02 (x), how much
+ * scratch the list takes, 02 (ix), and how often repeats stand, 02 (iii). Keys that ask for no repeat are run with either opening. */
 #include "mirror.h"
 #include <stdio.h>
 #include <stdlib.h>
@@ -92,6 +92,8 @@ static void empty_at_every_capacity(opening *open)
         key("remove left", 6, mirror_remove_left(store, length));
         key("letter at 0", 7, mirror_letter(store, length, 0));
         key("longest length", 0, mirror_longest_length(store, length));
+        key("occurrences", 0, mirror_occurrences(store, length));
+        key("frequency of row 2", 7, mirror_frequency(store, length, 2));
     }
 }
 
@@ -585,6 +587,141 @@ static void scratch_of_lists(opening *open)
     for (size_t i = 0; i < sizeof needs / sizeof needs[0]; i++) scratch_of(open, needs[i].letters, needs[i].bytes);
 }
 
+/* ---- how often repeats stand, 02 (iii) */
+
+static void stands(const char *repeat, uint64_t times)
+{
+    key(repeat, times << 32, mirror_frequency(store, length, row_of(repeat)));
+}
+
+/* all repeats counted by place: over the rows, over the right ends, and nothing below the two sums */
+static void places(uint64_t sum)
+{
+    uint64_t answer = mirror_occurrences(store, length);
+    key("places, over the rows", sum, mirror_by_rows(answer));
+    key("places, over the right ends", sum, mirror_by_ends(answer));
+    key("the bytes below the sums", 0, answer & 0xffff);
+}
+
+/* 001, example 3.2: AACAACAACA; then letters go at either end, and one comes */
+static void places_of_a_figure(uint64_t capacity, int from_left)
+{
+    record(mirror_open, "AACAACAACA", capacity, from_left);
+    stands("A", 7), stands("C", 3), stands("AA", 3), stands("ACA", 3);
+    stands("AACAA", 2), stands("CAAC", 2), stands("ACAACA", 2);
+    stands("AACAACAA", 1), stands("CAACAAC", 1), stands("ACAACAACA", 1);
+    places(25);
+    goes(1, 'A', "AACAACAA");
+    stands("A", 6), stands("C", 3), stands("AA", 2), stands("ACA", 3), stands("AACAA", 1), stands("CAAC", 2);
+    places(21);
+    goes(0, 'A', "ACAACAACA");
+    stands("A", 5), stands("C", 3), stands("AA", 2), stands("ACA", 2), stands("AACAA", 1), stands("ACAACA", 1);
+    places(17);
+    key("C at the left brings in CAC", 1, mirror_flag(mirror_add_left(store, length, 'C')));
+    stands("C", 4), stands("CAC", 1), stands("A", 5);
+    places(19);
+}
+
+static void places_of_short_records(uint64_t capacity, int from_left)
+{
+    record(mirror_open, "", capacity, from_left);
+    places(0);
+    record(mirror_open, "A", capacity, from_left);
+    stands("A", 1);
+    places(1);
+    record(mirror_open, "AAAA", capacity, from_left);
+    stands("A", 4), stands("AA", 3), stands("AAA", 2), stands("AAAA", 1);
+    places(10);
+    record(mirror_open, "ACCACG", capacity, from_left);
+    stands("A", 2), stands("C", 3), stands("CC", 1), stands("ACCA", 1), stands("CAC", 1), stands("G", 1);
+    places(9);
+    record(mirror_open, "AACGAA", capacity, from_left); /* AA is the longest at two right ends */
+    stands("A", 4), stands("AA", 2), stands("C", 1), stands("G", 1);
+    places(8);
+}
+
+/* inverted records: an end may have no repeat, and letters may stand without any */
+static void inverted_places(uint64_t capacity, int from_left)
+{
+    record(mirror_open_inverted, "AAAA", capacity, from_left);
+    places(0);
+    record(mirror_open_inverted, "GAATTC", capacity, from_left);
+    stands("AT", 1), stands("AATT", 1), stands("GAATTC", 1);
+    places(3);
+    key("turn plain", 0, mirror_turn_plain(store, length));
+    stands("G", 1), stands("A", 2), stands("AA", 1), stands("T", 2), stands("TT", 1), stands("C", 1);
+    places(8);
+    record(mirror_open_inverted, "ATATAT", capacity, from_left);
+    stands("AT", 3), stands("TA", 2), stands("ATAT", 2), stands("TATA", 1), stands("ATATAT", 1);
+    places(9);
+}
+
+/* A goes and CC takes its row, 2, with the higher row of C as its link: by falling row numbers C would be read before CC had
+ * come to it */
+static void places_of_rows_taken_again(uint64_t capacity)
+{
+    record(mirror_open, "AC", capacity, 0);
+    goes(1, 'A', "A");
+    key("CC is new", 1ull << 8 | 2ull << 16 | 1ull << 32, mirror_add_right(store, length, 'C'));
+    key("CC links to row 3", 3ull << 16 | 2ull << 32 | 1ull << 48, mirror_row(store, length, 2));
+    key("frequency of CC", 1ull << 32, mirror_frequency(store, length, 2));
+    key("frequency of C", 2ull << 32, mirror_frequency(store, length, 3));
+    places(3);
+}
+
+/* rows without a repeat: the roots, free rows, and numbers over capacity + 1, which would be a row's if they were narrowed */
+static void rows_without_places(uint64_t capacity)
+{
+    const uint64_t none[] = {0, 1, 5, capacity + 1, capacity + 2, (1ull << 16) + 2, (1ull << 32) + 2, (1ull << 63) + 2, UINT64_MAX};
+    record(mirror_open, "ACA", capacity, 0);
+    for (uint64_t row = 2; row <= 4; row++) key("a row's frequency", (row == 2 ? 2ull : 1ull) << 32, mirror_frequency(store, length, row));
+    memcpy(before, store, sizeof store);
+    for (size_t i = 0; i < sizeof none / sizeof none[0]; i++) key("no row's frequency", 7, mirror_frequency(store, length, none[i]));
+    key("every byte stays", 0, memcmp(before, store, sizeof store) != 0);
+    goes(0, 'A', "ACA");
+    key("the row that went", 7, mirror_frequency(store, length, 4));
+    store[24 * (capacity + 2)] = 'N'; /* the first letter, by docs/LAYOUT.md */
+    memcpy(before, store, sizeof store);
+    for (size_t i = 0; i < sizeof none / sizeof none[0]; i++) key("what is not good comes first", 3, mirror_frequency(store, length, none[i]));
+    key("a row of what is not good", 3, mirror_frequency(store, length, 2));
+    key("places of what is not good", 3, mirror_occurrences(store, length));
+    key("every byte stays", 0, memcmp(before, store, sizeof store) != 0);
+}
+
+/* the most that there can be: 1,024 A, of which each stretch is a repeat */
+static void most_places(int from_left)
+{
+    char letters[1025] = "";
+    memset(letters, 'A', 1024);
+    record(mirror_open, letters, 1024, from_left);
+    sitting = "1,024 A";
+    for (uint64_t n = 1; n <= 1024; n++) key("frequency of n A", (1025 - n) << 32, mirror_frequency(store, length, n + 1));
+    key("frequency of row capacity + 2", 7, mirror_frequency(store, length, 1026));
+    places(524800);
+    key("turn inverted", 0, mirror_turn_inverted(store, length));
+    places(0);
+}
+
+/* AT 512 times: in the inverted reading each even stretch is a repeat, in the plain one each odd one */
+static void places_of_pairs(void)
+{
+    char letters[1025] = "", piece[1024] = "";
+    for (size_t i = 0; i < 1024; i++) letters[i] = "AT"[i % 2];
+    record(mirror_open_inverted, letters, 1024, 0);
+    sitting = "512 AT";
+    for (size_t n = 2; n < 1024; n += 2) {
+        memcpy(piece, letters, n);
+        key("frequency from A on", (513 - n / 2) << 32, mirror_frequency(store, length, row_of(piece)));
+        memcpy(piece, letters + 1, n);
+        key("frequency from T on", (512 - n / 2) << 32, mirror_frequency(store, length, row_of(piece)));
+    }
+    stands(letters, 1);
+    places(262144);
+    key("turn plain", 0, mirror_turn_plain(store, length));
+    stands("A", 512), stands("TAT", 511);
+    places(262656);
+}
+
 /* the keys that ask for no repeat */
 static void either_reading(opening *open)
 {
@@ -630,6 +767,18 @@ int main(void)
         }
         breaks_turned(capacities[k]);
     }
+    for (size_t k = 0; k < sizeof capacities / sizeof capacities[0]; k++) {
+        for (int from_left = 0; from_left < 2; from_left++) {
+            if (capacities[k] >= 10) places_of_a_figure(capacities[k], from_left);
+            places_of_short_records(capacities[k], from_left);
+            inverted_places(capacities[k], from_left);
+        }
+        places_of_rows_taken_again(capacities[k]);
+        rows_without_places(capacities[k]);
+    }
+    for (int from_left = 0; from_left < 2; from_left++) most_places(from_left);
+    places_of_rows_taken_again(2);
+    places_of_pairs();
     longest_of_all();
     longest_search();
     breaks_in_the_middle();

@@ -15,8 +15,8 @@
     X(ADD_LEFT, add_left) X(ADD_RIGHT, add_right) X(REMOVE_LEFT, remove_left) X(REMOVE_RIGHT, remove_right)       \
     EACH_TURN(X)                                                                                                  \
     X(LENGTH, length) X(COUNT, count) X(LONGEST, longest) X(LONGEST_LENGTH, longest_length)                       \
-    X(LONGEST_LEFT, longest_left) X(LONGEST_RIGHT, longest_right)                                                 \
-    X(LETTER, letter) X(ROW, row) X(SPELL, spell) X(FIND, find) X(LIST, list)
+    X(LONGEST_LEFT, longest_left) X(LONGEST_RIGHT, longest_right) X(OCCURRENCES, occurrences)                     \
+    X(LETTER, letter) X(ROW, row) X(FREQUENCY, frequency) X(SPELL, spell) X(FIND, find) X(LIST, list)
 
 #define EACH_CALL(X) EACH_OPENING(X) EACH_STORE_CALL(X) X(FASTA, fasta)
 

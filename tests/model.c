@@ -9,7 +9,7 @@
 
 enum { SHORT = 48, MIDDLING = 200, PIECE_SLOT = 0, OUT_SLOT, SCRATCH_SLOT, STORE_SLOT, REMADE_SLOT };
 
-unsigned long model_sittings, model_calls, model_turns, model_facts, model_falls[READINGS][MODEL_FALLS];
+unsigned long model_sittings, model_calls, model_turns, model_facts, model_falls[READINGS][MODEL_FALLS], model_upward[READINGS];
 
 static const library linked = LIBRARY_OF_THIS_PROGRAM;
 static unsigned reading;
@@ -17,6 +17,7 @@ static const unsigned char *rule;
 static unsigned char letters[MODEL_MOST];
 static size_t length, capacity, count;
 static size_t largest; /* the longest length that the store answered after the last change */
+static size_t by_place; /* all repeats counted by place, followed from change to change */
 static struct { size_t length; unsigned char word[MODEL_MOST]; unsigned row; } repeats[MODEL_MOST];
 static uint8_t *store;
 static size_t store_length;
@@ -48,6 +49,12 @@ static void same(const char *what, uint64_t wanted, uint64_t got)
 static uint64_t packed(unsigned flag, unsigned row, size_t first, size_t second)
 {
     return (uint64_t)flag << 8 | (uint64_t)row << 16 | (uint64_t)first << 32 | (uint64_t)second << 48;
+}
+
+/* the two sums of a record's repeats, each of three bytes */
+static uint64_t sums(size_t by_rows, size_t by_ends)
+{
+    return (uint64_t)by_rows << 16 | (uint64_t)by_ends << 40;
 }
 
 static void unchanged(const char *what)
@@ -99,11 +106,24 @@ static void ask_near(const unsigned char *w, size_t n, size_t place)
     ask_find("find a repeat with one letter changed", near, n);
 }
 
-/* one repeat: found at its row, with the fields that its letters give, and spelt */
-static void ask_repeat(size_t i)
+/* whether places are counted in the row, or after the change, of this number: in large stores, where the calls take most of the
+ * time, in each eighth */
+static int counted(unsigned long which)
+{
+    return capacity <= MIDDLING || which % 8 == 0;
+}
+
+/* how often a row's repeat stands, 0 where it has none: then it is refused */
+static void ask_places(const char *what, unsigned row, size_t places)
+{
+    same(what, places ? packed(0, 0, places, 0) : 7, mirror_frequency(store, store_length, row));
+}
+
+/* one repeat: found at its row, with the fields that its letters give, counted at every place, and spelt; how many places */
+static size_t ask_repeat(size_t i)
 {
     const unsigned char *w = repeats[i].word;
-    size_t n = repeats[i].length, link = brute_link(rule, w, n);
+    size_t n = repeats[i].length, link = brute_link(rule, w, n), first, places = brute_places(w, n, letters, length, &first);
     unsigned row = repeats[i].row;
     unsigned link_row = row_of(w + n - link, link);
     unsigned inner_row = n == 1 ? 0 : row_of(w + 1, n - 2);
@@ -112,6 +132,10 @@ static void ask_repeat(size_t i)
     same("find", packed(1, row, 0, 0), find(w, n));
     ask_near(w, n, (model_calls + i) % n);
     same("row", packed(0, link_row, n, inner_row), mirror_row(store, store_length, row));
+    if (counted(model_calls + row)) {
+        ask_places("frequency", row, places);
+        model_upward[reading] += link_row > row;
+    }
     same("spell", packed(0, 0, n, 0), mirror_spell(store, store_length, row, out, n));
     if (memcmp(out, w, n) != 0) fail("spelt bytes", 0, 0);
     memset(out, 7, n);
@@ -121,6 +145,7 @@ static void ask_repeat(size_t i)
     memset(out, 7, n + 2);
     same("spell with room", packed(0, 0, n, 0), mirror_spell(store, store_length, row, out, n + 2));
     same("spell with room: bytes beyond", 7 + 256 * 7, out[n] + 256u * out[n + 1]);
+    return places;
 }
 
 /* every row that is no repeat's, and numbers that are no row's */
@@ -132,11 +157,16 @@ static void ask_other_rows(void)
     for (unsigned r = 2; r < capacity + 5; r++) {
         if (taken[r]) continue;
         same("free row", 7, mirror_row(store, store_length, r));
+        if (counted(model_calls + r)) ask_places("frequency of a free row", r, 0);
         same("free row spelt", 7, mirror_spell(store, store_length, r, guard_room(OUT_SLOT, 4), 4));
     }
     same("row 0", packed(0, 0, 65535, 0), mirror_row(store, store_length, 0));
     same("row 1", packed(0, 0, 0, 0), mirror_row(store, store_length, 1));
     same("row 2^32 + 2", 7, mirror_row(store, store_length, (1ull << 32) + 2));
+    ask_places("frequency of row 0", 0, 0);
+    ask_places("frequency of row 1", 1, 0);
+    same("frequency of row 2^32 + 2", 7, mirror_frequency(store, store_length, (1ull << 32) + 2));
+    same("frequency of row 2^64 - 1", 7, mirror_frequency(store, store_length, UINT64_MAX));
     same("row 0 spelt", 0, mirror_spell(store, store_length, 0, guard_room(OUT_SLOT, 0), 0));
     same("row 1 spelt", 0, mirror_spell(store, store_length, 1, guard_room(OUT_SLOT, 0), 0));
 }
@@ -223,19 +253,32 @@ static void ask_list(void)
     listed(text, size, guarded(PIECE_SLOT, (unsigned char *)name, name_length), name_length);
 }
 
+/* the longest at an end: its row, whether it stands once only, and how often; where there is none row 1, which has no places */
+static void ask_end(const char *what, const unsigned char *w, size_t n, uint64_t answer)
+{
+    size_t first, places = brute_places(w, n, letters, length, &first);
+    unsigned row = row_of(w, n);
+    same(what, packed(places == 1, row, 0, 0), answer);
+    if (counted(model_calls)) ask_places("how often the longest at an end stands", row, n > 0 ? places : 0);
+}
+
 static void ask_ends(void)
 {
-    size_t n = brute_left(rule, letters, length), m = brute_right(rule, letters, length), first;
-    const unsigned char *right = letters + length - m;
+    size_t n = brute_left(rule, letters, length), m = brute_right(rule, letters, length);
+    uint64_t left = mirror_longest_left(store, store_length), right = mirror_longest_right(store, store_length);
     if (length == 0) {
-        same("longest at the left", 6, mirror_longest_left(store, store_length));
-        same("longest at the right", 6, mirror_longest_right(store, store_length));
+        same("longest at the left", 6, left);
+        same("longest at the right", 6, right);
         return;
     }
-    same("longest at the left", packed(brute_places(letters, n, letters, length, &first) == 1, row_of(letters, n), 0, 0),
-         mirror_longest_left(store, store_length));
-    same("longest at the right", packed(brute_places(right, m, letters, length, &first) == 1, row_of(right, m), 0, 0),
-         mirror_longest_right(store, store_length));
+    ask_end("longest at the left", letters, n, left);
+    ask_end("longest at the right", letters + length - m, m, right);
+}
+
+/* after a change: all that stand, as those that came and went with the letters make them */
+static void stand(void)
+{
+    if (counted(model_calls)) same("occurrences after a change", sums(by_place, by_place), mirror_occurrences(store, store_length));
 }
 
 /* What the store carries: as many repeats of each length as stand, together as many as are counted, and the largest of these
@@ -263,6 +306,7 @@ static void carries(void)
 void model_ask(void)
 {
     stretch longest = brute_longest(rule, letters, length);
+    size_t by_rows = 0;
     memcpy(before, store, store_length);
     same("length", packed(0, 0, length, 0), mirror_length(store, store_length));
     same("count", packed(0, 0, count, 0), mirror_count(store, store_length));
@@ -272,7 +316,8 @@ void model_ask(void)
     for (size_t i = 0; i < length; i++) same("letter", packed(0, 0, letters[i], 0), mirror_letter(store, store_length, i));
     same("letter past the end", 7, mirror_letter(store, store_length, length));
     same("letter far past the end", 7, mirror_letter(store, store_length, 1ull << 32));
-    for (size_t i = 0; i < count; i++) ask_repeat(i);
+    for (size_t i = 0; i < count; i++) by_rows += ask_repeat(i);
+    same("occurrences", sums(by_rows, brute_by_ends(rule, letters, length)), mirror_occurrences(store, store_length));
     ask_other_rows();
     ask_pieces();
     ask_list();
@@ -339,6 +384,8 @@ void model_add(int left, uint64_t letter, int undo)
     if (fresh) bring_in(w, n, row);
     carries();
     same("longest length after an addition", raised, largest);
+    by_place += left ? brute_prefixes(rule, letters, length) : brute_suffixes(rule, letters, length);
+    stand();
     ask_ends();
 }
 
@@ -366,11 +413,13 @@ void model_remove(int left)
     memcpy(word, left ? letters : letters + length - n, n);
     long i = known(word, n);
     if (n > 0 && i < 0) fail("the longest repeat at the end has no row", 0, n);
+    by_place -= left ? brute_prefixes(rule, letters, length) : brute_suffixes(rule, letters, length);
     part(left);
     unsigned gone = n > 0 && brute_first(word, n, letters, length) > length;
     same("removal", packed(gone, gone ? repeats[i].row : 0, letter, 0), got);
     if (gone) repeats[i] = repeats[--count];
     lowered();
+    stand();
     ask_ends();
 }
 
@@ -405,7 +454,9 @@ void model_turn(unsigned to)
         same("find after a turn", packed(1, mirror_row_of(found), 0, 0), found);
         bring_in(w, list[i].end - list[i].start, mirror_row_of(found));
     }
+    by_place = brute_by_ends(rule, letters, length);
     carries();
+    stand();
     remade();
 }
 
@@ -415,7 +466,7 @@ void model_open(unsigned wanted_reading, size_t wanted, size_t extra)
     reading = wanted_reading;
     rule = brute_rule(reading);
     capacity = wanted;
-    length = count = 0;
+    length = count = by_place = 0;
     store_length = MIRROR_STORE_SIZE(capacity) + extra;
     store = guard_room(STORE_SLOT, store_length);
     for (size_t i = 0; i < store_length; i++) store[i] = (uint8_t)(i * 7 + wanted);
@@ -428,4 +479,5 @@ void model_open(unsigned wanted_reading, size_t wanted, size_t extra)
     unchanged("a refused opening changed the store");
     same("opening", 0, oracle_open(store, store_length, reading, capacity));
     carries();
+    stand();
 }

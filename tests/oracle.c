@@ -97,6 +97,22 @@ static uint64_t row_answer(const call *c)
     return packed(0, judge_row(&was, was.letters + at.end - link, link), n, inner);
 }
 
+/* a row without a repeat is refused, the two roots among them */
+static uint64_t frequency_answer(const call *c)
+{
+    if (c->number < 2 || c->number > was.capacity + 1 || !was.used[c->number]) return 7;
+    stretch at = was.rows[c->number];
+    size_t first;
+    return packed(0, 0, brute_places(was.letters + at.start, at.end - at.start, was.letters, was.size, &first), 0);
+}
+
+/* two sums of three bytes each, above the refusal number and a byte that is 0 */
+static uint64_t occurrences_answer(void)
+{
+    uint64_t by_rows = brute_by_words(was.rule, was.letters, was.size), by_ends = brute_by_ends(was.rule, was.letters, was.size);
+    return by_rows << 16 | by_ends << 40;
+}
+
 static uint64_t find_answer(const call *c)
 {
     if (c->text_length == 0) return 8;
@@ -134,6 +150,8 @@ static uint64_t wanted_answer(const call *c)
     case LONGEST_RIGHT: return end_answer(0);
     case LETTER: return c->number < was.size ? packed(0, 0, was.letters[c->number], 0) : 7;
     case ROW: case SPELL: return row_answer(c);
+    case FREQUENCY: return frequency_answer(c);
+    case OCCURRENCES: return occurrences_answer();
     case FIND: return find_answer(c);
     case LIST: return list_answer(c);
     default: return change_answer(c);

@@ -2,9 +2,10 @@
  * strands is a repeat of every inverted record that holds it, and is found there; any other is absent, though it stands. The
  * records are a site between random letters, put together at the right or at both ends and taken apart again, and each site
  * alone. Some are opened inverted; others plain, where no site of the first kind is found, and are turned to the inverted
- * reading then. An absent site is told with the pair at which it breaks, in the record's reading. The longest length is that of
- * the longest stretch that reads alike. Whether letters read alike is tried here in a few lines, and no other test's program is
- * asked. A wrong answer is told on standard error, and the program ends with 1. */
+ * reading then. An absent site is told with the pair at which it breaks, in the record's reading; a site that is found has as many
+ * places as it stands at. The longest length is that of the longest stretch that reads alike, and all places are as many as there
+ * are such stretches. Whether letters read alike is tried here in a few lines, and no other test's program is asked. A wrong
+ * answer is told on standard error, and the program ends with 1. */
 #include "mirror.h"
 #include "random.h"
 #include <stdio.h>
@@ -110,6 +111,15 @@ static void longest_length(void)
     key("longest length", longest_alike() << 32, mirror_longest_length(store, length));
 }
 
+/* all stretches that read alike, as both sums of the record's places */
+static void all_places(void)
+{
+    uint64_t n = strlen(letters), alike = 0;
+    for (size_t start = 0; start < n; start++)
+        for (size_t end = start + 1; end <= n; end++) alike += (uint64_t)reads_alike(letters + start, end - start);
+    key("all places", alike << 16 | alike << 40, mirror_occurrences(store, length));
+}
+
 /* opens a record by the given call and puts in the letters: those from `from` on at the right, those before it at the left,
  * in an order by chance */
 static void record(uint64_t (*open)(uint8_t *, size_t, uint64_t), size_t from)
@@ -132,13 +142,22 @@ static uint64_t find(const char *site, size_t n)
     return mirror_find(store, length, (const uint8_t *)site, n);
 }
 
-/* the piece is found, its row has its length and spells it */
+/* how often the piece stands, places that overlap among them */
+static uint64_t places(const char *piece, size_t n)
+{
+    uint64_t found = 0;
+    for (const char *at = letters; *at; at++) found += strncmp(at, piece, n) == 0;
+    return found;
+}
+
+/* the piece is found, its row has its length, stands as often as it does and spells it */
 static void is_found(const char *piece, size_t n)
 {
     uint8_t spelt[MOST];
     uint64_t answer = find(piece, n), row = mirror_row_of(answer);
     key("found", 1ull << 8 | row << 16, answer);
     key("its length", n, mirror_first(mirror_row(store, length, row)));
+    key("its places", places(piece, n) << 32, mirror_frequency(store, length, row));
     key("bytes spelt", (uint64_t)n << 32, mirror_spell(store, length, row, spelt, n));
     key("spelling", 0, memcmp(spelt, piece, n) != 0);
 }
@@ -202,12 +221,15 @@ static void between_flanks(const entry *e, int at_both_ends, int turned)
     every_site(even, EVEN, 1);
     every_site(uneven, UNEVEN, 1);
     longest_length();
+    all_places();
     take_apart(before, after);
     every_site(even, EVEN, 1);
     every_site(uneven, UNEVEN, 1);
     longest_length();
+    all_places();
     take_apart(m / 2, m - m / 2);
     key("repeats of no letters", 0, mirror_count(store, length));
+    key("places of no letters", 0, mirror_occurrences(store, length));
     key("longest length of no letters", 0, mirror_longest_length(store, length));
 }
 

@@ -166,6 +166,21 @@ static void say_spelling(unsigned row, char *said)
     else sprintf(said, "%.*s", (int)find_row(row)->length, (const char *)find_row(row)->word);
 }
 
+static void say_frequency(unsigned row, char *said)
+{
+    const repeat *r = find_row(row);
+    size_t first;
+    sprintf(said, "%zu", brute_places(r->word, r->length, letters, size, &first));
+}
+
+/* all that stand counted by place: over the rows in use, and over the right ends */
+static void say_occurrences(char *said)
+{
+    size_t by_rows = 0, first;
+    for (size_t i = 0; i < count; i++) by_rows += brute_places(held[i].word, held[i].length, letters, size, &first);
+    sprintf(said, "%zu by rows, %zu by ends", by_rows, brute_by_ends(rule, letters, size));
+}
+
 static void say_found(const char *piece, char *said)
 {
     const unsigned char *word = (const unsigned char *)piece;
@@ -196,6 +211,8 @@ static void ask(const char *call, char *said)
     else if (strncmp(call, "longest ", 8) == 0) say_end(strcmp(about, "left") == 0, said);
     else if (strncmp(call, "letter ", 7) == 0) sprintf(said, "%.1s", number < size ? (const char *)letters + number : "");
     else if (strncmp(call, "row ", 4) == 0) say_row(number, said);
+    else if (strncmp(call, "frequency ", 10) == 0) say_frequency(number, said);
+    else if (strcmp(call, "occurrences") == 0) say_occurrences(said);
     else if (strncmp(call, "spell ", 6) == 0) say_spelling(number, said);
     else if (strncmp(call, "find ", 5) == 0) say_found(about, said);
     else if (strncmp(call, "list ", 5) == 0) say_list(all, repeats, said);

@@ -1,8 +1,9 @@
 /* Long sittings through the C boundary: every call, every answer, every lent byte, at small and large capacities, first
  * with buffers that end at a guard page and then with buffers that begin right after one. Random sittings, then
- * structured records that grow at one end or at both, up to full length, and shrink again; all of it on plain records and on
- * inverted ones, with and without turns to the other reading. Removals must be seen to lower the longest length in every way
- * that there is. Usage: sittings [seed [sittings]] */
+ * structured records that grow at one end or at both, up to full length, and shrink again, and such that grow at one end while
+ * they shrink at the other; all of it on plain records and on inverted ones, with and without turns to the other reading.
+ * Removals must be seen to lower the longest length in every way that there is, and rows that were taken again to link to higher
+ * ones. Usage: sittings [seed [sittings]] */
 #include "guard.h"
 #include "model.h"
 #include "random.h"
@@ -110,6 +111,17 @@ static void structured_sitting(unsigned reading, int word, size_t capacity, unsi
     model_ask();
 }
 
+/* a record that moves on: letters join at the one end and, once it is full, leave at the other, so that rows are taken again */
+static void moving_sitting(unsigned reading, int word, size_t capacity, int to_the_left)
+{
+    model_open(reading, capacity, 5);
+    for (unsigned i = 0; i < 5 * capacity; i++) {
+        if (model_length() == capacity) model_remove(!to_the_left);
+        model_add(to_the_left, letter_of(reading, word, i), 0);
+        model_ask();
+    }
+}
+
 static void run(unsigned reading, int sittings)
 {
     static const size_t capacities[] = {1, 2, 3, 4, 7, 16, 33};
@@ -121,6 +133,7 @@ static void run(unsigned reading, int sittings)
         for (unsigned k = 0; k < sizeof capacities / sizeof capacities[0]; k++) {
             for (unsigned ends = 0; ends < 3; ends++) structured_sitting(reading, word, capacities[k], ends, 0);
             structured_sitting(reading, word, capacities[k], ((unsigned)word + k) % 3, 1);
+            moving_sitting(reading, word, capacities[k], (word + (int)k) % 2);
         }
 }
 
@@ -142,6 +155,13 @@ static int every_fall(void)
     return plain[0] && plain[1] && plain[2] && inverted[0] && inverted[2];
 }
 
+/* a repeat comes after the one that it links to, so only a row that was taken again links to a higher one */
+static int links_upward(void)
+{
+    printf("rows that link to higher ones were counted at all places: %lu in plain records, %lu in inverted ones\n", model_upward[PLAIN], model_upward[INVERTED]);
+    return model_upward[PLAIN] && model_upward[INVERTED];
+}
+
 int main(int argc, char **argv)
 {
     int sittings = argc > 2 ? atoi(argv[2]) : 24;
@@ -153,7 +173,7 @@ int main(int argc, char **argv)
             run_full(reading, place);
         }
     }
-    if (!every_fall()) return 1;
+    if (!every_fall() || !links_upward()) return 1;
     printf("%lu sittings, %lu changes, %lu turns to the other reading, %lu facts\n", model_sittings, model_calls, model_turns, model_facts);
     return 0;
 }

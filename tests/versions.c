@@ -185,7 +185,7 @@ static call some_call(call_kind kind, unsigned alphabet)
     memset(bytes, 0, sizeof bytes);
     if (kind <= ADD_RIGHT) c.number = some_letter(kind == ADD_LEFT, alphabet);
     if (kind == LETTER) c.number = some_number(size);
-    if (kind == ROW || kind == SPELL) c.number = some_number(capacity);
+    if (kind == ROW || kind == FREQUENCY || kind == SPELL) c.number = some_number(capacity);
     if (kind == SPELL) c.out_length = random_below((unsigned)size + 3);
     if (kind == FIND) c.text_length = some_piece(bytes);
     if (kind == LIST) {
@@ -340,8 +340,19 @@ static void ask_list(void)
     tighten(&c, make(&c));
 }
 
+/* all places, and how often the repeats of some rows stand */
+static void ask_places(void)
+{
+    call all = {OCCURRENCES, 0, NULL, 0, 0, 0};
+    make(&all);
+    for (int i = 0; i < 6; i++) {
+        call c = {FREQUENCY, 2 + random_below((unsigned)capacity), NULL, 0, 0, 0};
+        make(&c);
+    }
+}
+
 /* an addition or a removal at the right (0), at the left (1) or at either end (2), then what stands at both and, now and then, the
- * list */
+ * list and places */
 static void change_at(unsigned ends, call_kind at_left, uint64_t letter)
 {
     unsigned right = ends == 2 ? random_below(2) : ends == 0;
@@ -352,9 +363,10 @@ static void change_at(unsigned ends, call_kind at_left, uint64_t letter)
         make(&asked);
     }
     if (random_below(16) == 0) ask_list();
+    if (random_below(16) == 0) ask_places();
 }
 
-/* a word of n letters joins and is taken away again, and where it is longest it is listed and damaged in every way */
+/* a word of n letters joins and is taken away again, and where it is longest it is listed, counted and damaged in every way */
 static void word_sitting(size_t n)
 {
     unsigned reading = without_inverted() ? PLAIN : random_below(READINGS), word = random_below(WORDS), joined = random_below(3), taken = random_below(3);
@@ -362,6 +374,7 @@ static void word_sitting(size_t n)
     if (!open_both(reading, n)) return;
     for (size_t i = 0; i < n && total < budget; i++) change_at(joined, ADD_LEFT, letter_of(word, reading, i));
     ask_list();
+    ask_places();
     if (!stores_apart) spoil_in_every_way();
     for (size_t i = 0; i < n && total < budget; i++) change_at(taken, REMOVE_LEFT, 0);
 }

@@ -1,0 +1,223 @@
+/* How often repeats stand, 02 (iii), through the C boundary: the frequency of every row and the two sums of all places, in
+ * records of both readings, held against the program that tries every stretch. Every word of up to six letters, put in at the
+ * right, at the left, behind letters that go again, and into a record that is turned then; records that move on and are turned
+ * now and then, asked after every change; structured words up to full length. Rows that were taken again must be seen to link to
+ * higher ones, in either reading. Rows without a repeat are refused, whatever the number; no byte of a store may change.
+ * Usage: counting [seed] */
+#include "brute.h"
+#include "guard.h"
+#include "mirror.h"
+#include "random.h"
+#include <stdio.h>
+#include <stdlib.h>
+#include <string.h>
+
+enum { MOST = 1024, SHORT = 6, STORE_SLOT = 0 };
+enum { AT_THE_RIGHT, AT_THE_LEFT, BEHIND_OTHERS, TURNED, WAYS };
+
+static const unsigned char others[] = "GCGCT";
+static uint8_t *store, kept[MIRROR_STORE_SIZE(MOST)];
+static unsigned reading;
+static const unsigned char *rule;
+static unsigned char letters[MOST];
+static size_t size, capacity, length;
+static unsigned long records, rows, free_rows, upward[READINGS], most;
+
+static void must(const char *what, uint64_t wanted, uint64_t got)
+{
+    if (wanted == got) return;
+    printf("%s record %.*s%s (%zu letters, capacity %zu): %s: wanted %llx, got %llx\n", reading == PLAIN ? "plain" : "inverted",
+           (int)(size < 60 ? size : 60), (char *)letters, size < 60 ? "" : "..", size, capacity, what, (unsigned long long)wanted,
+           (unsigned long long)got);
+    exit(1);
+}
+
+/* ---- one record */
+
+/* A row has the frequency of what it spells, and is refused where it spells nothing: a root, a free row, a number that is no
+ * row's. How often it stands. */
+static size_t ask_row(uint64_t row)
+{
+    uint8_t word[MOST];
+    size_t n = mirror_first(mirror_spell(store, length, row, word, sizeof word)), first, places = 0;
+    if (n > 0) places = brute_places(word, n, letters, size, &first);
+    must("what a row spells stands", n > 0, places > 0);
+    must("frequency", n > 0 ? (uint64_t)places << 32 : MIRROR_NO_PLACE, mirror_frequency(store, length, row));
+    upward[reading] += n > 0 && mirror_row_of(mirror_row(store, length, row)) > row;
+    rows += n > 0;
+    free_rows += n == 0;
+    return places;
+}
+
+/* every row, and numbers that would be a row's if they were narrowed; then the two sums, each by its own definition */
+static void ask_all(void)
+{
+    static const uint64_t far[] = {(1ull << 16) + 2, (1ull << 32) + 2, (1ull << 63) + 2, UINT64_MAX};
+    uint64_t by_rows = 0, by_ends = brute_by_ends(rule, letters, size);
+    memcpy(kept, store, length);
+    for (uint64_t row = 0; row < capacity + 4; row++) by_rows += ask_row(row);
+    for (size_t i = 0; i < sizeof far / sizeof far[0]; i++) ask_row(far[i]);
+    uint64_t answer = mirror_occurrences(store, length);
+    must("all places, summed over the rows", by_rows, mirror_by_rows(answer));
+    must("all places, summed over the words", brute_by_words(rule, letters, size), mirror_by_rows(answer));
+    must("all places, summed over the right ends", by_ends, mirror_by_ends(answer));
+    must("the bytes below the sums", 0, answer & 0xffff);
+    must("a byte of the store changed", 0, memcmp(store, kept, length) != 0);
+    records++;
+    if (by_ends > most) most = by_ends;
+}
+
+/* ---- changes */
+
+static void done(uint64_t answer)
+{
+    must("a change is refused", 0, mirror_refusal(answer));
+}
+
+static void read_so(unsigned now)
+{
+    reading = now;
+    rule = brute_rule(reading);
+}
+
+static void open_record(unsigned opened, size_t wanted)
+{
+    guard_at(records % 2 ? GUARD_BEFORE : GUARD_AFTER);
+    read_so(opened);
+    size = 0;
+    capacity = wanted;
+    length = MIRROR_STORE_SIZE(capacity);
+    store = guard_room(STORE_SLOT, length);
+    done((reading == PLAIN ? mirror_open : mirror_open_inverted)(store, length, capacity));
+}
+
+static void join(int left, unsigned char letter)
+{
+    memmove(letters + left, letters, size);
+    letters[left ? 0 : size] = letter;
+    size++;
+    done((left ? mirror_add_left : mirror_add_right)(store, length, letter));
+}
+
+static void leave(int left)
+{
+    size--;
+    memmove(letters, letters + left, size);
+    done((left ? mirror_remove_left : mirror_remove_right)(store, length));
+}
+
+static void turn(void)
+{
+    read_so(reading == PLAIN ? INVERTED : PLAIN);
+    done((reading == PLAIN ? mirror_turn_plain : mirror_turn_inverted)(store, length));
+}
+
+/* the word as a record that is read so; each way gives its repeats the rows in another order, and behind letters that go again
+ * they have rows that were taken before */
+static void make_record(unsigned wanted, const unsigned char *word, size_t n, int way)
+{
+    size_t before = way == BEHIND_OTHERS ? sizeof others - 1 : 0, room = n + before < MOST ? n + before + 1 : MOST;
+    open_record(way == TURNED ? !wanted : wanted, room);
+    for (size_t i = 0; i < before; i++) join(0, others[i]);
+    for (size_t i = 0; i < n; i++) join(way == AT_THE_LEFT, word[way == AT_THE_LEFT ? n - 1 - i : i]);
+    for (size_t i = 0; i < before; i++) leave(1);
+    if (way == TURNED) turn();
+}
+
+/* ---- all of it */
+
+static void short_words(unsigned wanted)
+{
+    unsigned char word[SHORT];
+    for (size_t n = 0; n <= SHORT; n++)
+        for (unsigned code = 0; code < 1u << (2 * n); code++) {
+            for (size_t i = 0; i < n; i++) word[i] = (unsigned char)"ACGT"[code >> (2 * i) & 3];
+            for (int way = 0; way < WAYS; way++) {
+                make_record(wanted, word, n, way);
+                ask_all();
+            }
+        }
+}
+
+/* Letters join at one end and leave at the other, and which is which changes now and then. Of the letters two are partners, and
+ * some join as the partner of the letter at the other end. */
+static void moving_record(unsigned wanted)
+{
+    unsigned alphabet = 1 + random_below(4), steps = 20 + random_below(60), left = 0;
+    open_record(wanted, 1 + random_below(random_below(3) ? 12 : 40));
+    for (unsigned i = 0; i < steps; i++) {
+        unsigned char letter = (unsigned char)"ATCG"[random_below(alphabet)];
+        if (random_below(12) == 0) left = !left;
+        if (random_below(40) == 0) turn();
+        if (size > 0 && random_below(4) == 0) letter = rule[letters[left ? size - 1 : 0]];
+        if (size == capacity || (size > 0 && random_below(6) == 0)) leave(!left);
+        join((int)left, letter);
+        ask_all();
+    }
+    while (size > 0) {
+        leave((int)random_below(2));
+        ask_all();
+    }
+}
+
+/* ---- long words */
+
+enum { ALL_A, PAIRS, FIBONACCI, THUE_MORSE, TWO_KINDS, FOUR_KINDS, WORDS };
+
+/* the Fibonacci word over A and T or, for an inverted record, over AT and CG: each has about as many repeats as letters */
+static void fibonacci(unsigned wanted, unsigned char *word)
+{
+    size_t last = wanted == PLAIN ? 1 : 2, now = 2 * last;
+    memcpy(word, wanted == PLAIN ? "AT" : "ATCG", now);
+    while (now < MOST) {
+        size_t more = last < MOST - now ? last : MOST - now;
+        memcpy(word + now, word, more);
+        last = now;
+        now += more;
+    }
+}
+
+static unsigned char letter_of(int kind, size_t i)
+{
+    switch (kind) {
+    case ALL_A: return 'A';
+    case PAIRS: return (unsigned char)"AT"[i % 2];
+    case THUE_MORSE: return (unsigned char)"CG"[__builtin_parityl(i)];
+    default: return (unsigned char)"ATCG"[random_below(kind == TWO_KINDS ? 2 : 4)];
+    }
+}
+
+static void choose_word(int kind, unsigned wanted, unsigned char *word)
+{
+    for (size_t i = 0; kind != FIBONACCI && i < MOST; i++) word[i] = letter_of(kind, i);
+    if (kind == FIBONACCI) fibonacci(wanted, word);
+}
+
+/* more rows than a byte can number; the fewest A of which all places are more than two bytes can number; a full record */
+static void long_words(unsigned wanted)
+{
+    static const size_t lengths[] = {257, 362, MOST};
+    static unsigned char word[MOST];
+    for (int kind = 0; kind < WORDS; kind++) {
+        choose_word(kind, wanted, word);
+        for (size_t i = 0; i < sizeof lengths / sizeof lengths[0]; i++) {
+            make_record(wanted, word, lengths[i], (int)((size_t)kind + i) % (lengths[i] == MOST ? 2 : WAYS));
+            ask_all();
+        }
+    }
+}
+
+int main(int argc, char **argv)
+{
+    random_seed(argc > 1 ? argv[1] : NULL, 20261119);
+    for (unsigned wanted = PLAIN; wanted < READINGS; wanted++) {
+        short_words(wanted);
+        for (int i = 0; i < 200; i++) moving_record(wanted);
+        long_words(wanted);
+    }
+    for (reading = PLAIN; reading < READINGS; reading++) must("rows that link to higher ones", 1, upward[reading] > 0);
+    must("the most places that a record can have", MOST * (MOST + 1) / 2, most);
+    printf("%lu records, with at most %lu places: %lu rows counted, of which %lu and %lu link to higher ones, %lu rows without a repeat refused\n", records,
+           most, rows, upward[PLAIN], upward[INVERTED], free_rows);
+    return 0;
+}
