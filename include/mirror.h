@@ -101,7 +101,7 @@ static inline unsigned mirror_first(uint64_t answer) { return (unsigned)(answer 
 static inline unsigned mirror_second(uint64_t answer) { return (unsigned)(answer >> 48); }
 /* The signed length in the answer of mirror_row: -1 for row 0. */
 static inline int mirror_signed_first(uint64_t answer) { return (int16_t)(answer >> 32 & 0xffff); }
-/* The two sums in the answer of mirror_occurrences, which has no other fields: bytes 2 to 4, and 5 to 7. */
+/* The two sums in the answer of mirror_occurrences, in place of the row and the two numbers: bytes 2 to 4, and 5 to 7. */
 static inline uint32_t mirror_by_rows(uint64_t answer) { return (uint32_t)(answer >> 16 & 0xffffff); }
 static inline uint32_t mirror_by_ends(uint64_t answer) { return (uint32_t)(answer >> 40); }
 

@@ -22,7 +22,7 @@ use Rattle.eertree.specs.Entries.{edgeHeld, entryAt, NoneTwice, IsEertre
 not-imaginary : {w : Word} → spelt w ≡ imaginary → ⊥
 not-imaginary e = let z : _≡_ {A = ℕ} 0 1 = cc in omega arith
 
-same-word : {v w : Word} → spelt v ≡ spelt w → v ≡ w
+pub same-word : {v w : Word} → spelt v ≡ spelt w → v ≡ w
 same-word e = cc
 
 -- the entries of nodes that differ differ

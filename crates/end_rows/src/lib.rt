@@ -1,4 +1,4 @@
-// The rows at the right ends of a record: the letters read once, for all that asks of every right end.
+// The rows at the right ends of a record, from one reading of the letters that both sums of all places share.
 ghost use Prim.Native.Nat.{_≤_};
 ghost use lib.ListN.{length};
 ghost use Rattle.store.specs.Layout.{sizeIn};

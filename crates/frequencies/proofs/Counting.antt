@@ -11,7 +11,7 @@ use mathlib.Core.Logic.{_⊎_, _≢_, ⊎-elim}
 use mathlib.Core.List.{[]}
 use lib.Dec.{ltb}
 use lib.ListN.{length, getD, set, take, replicate, length-set, length-replicate}
-use lib.Seq.{getD-set-same, getD-set-other, take-length}
+use lib.Seq.{getD-set-same, getD-set-other}
 use borrow.Author.Tests.{lt-ltb, le-ltb}
 use Rattle.palindromes.specs.Word.{Word, member}
 use Rattle.palindromes.specs.Palindrome.{Palindrome}
@@ -28,14 +28,13 @@ use Rattle.eertree.proofs.Rows.{word-row}
 use Rattle.store.specs.Layout.{sizeIn, usedIn, lettersIn}
 use Rattle.store.specs.Good.{ruleOf, nodeIn, Good}
 use Rattle.store.proofs.Sizes.{letters-length}
-use Rattle.transitions.proofs.Rows.{covers}
+use Rattle.transitions.proofs.Rows.{covers, row-below}
 use Rattle.walk.specs.Replay.{endingIn, newAt, Holds}
-use Rattle.walk.proofs.Reading.{root-old, met-other, met-ending, ending-row}
-use Rattle.end_rows.proofs.Numbers.{row-below}
+use Rattle.walk.proofs.Reading.{read-whole, root-old, met-other, met-ending, ending-row}
 use Rattle.frequencies.specs.Counts.{weigh, endsWith, openWith, HandedFrom, FirstRows}
 use Rattle.frequencies.proofs.Weigh.{counted, weigh-set, weigh-agree, weigh-noughts}
 
--- what holds when the first k right ends have been counted; `ends` had the rows of `rows`
+-- what holds when the first k right ends have been counted; `rows` is what `ends` held at first
 pub record Counting (b rows : Word) (k : ℕ) (ends counts : Word) : Type 0 where
   pub same : length ends ≡ length rows
   pub long : length counts ≡ 1026
@@ -54,6 +53,13 @@ noughts (suc n) (suc r) = noughts n r
 module _ {b : Word} (g : Good b) where
   -- ---- the first letter
 
+  -- before it the palindrome of no row stands
+  pub none-stands : (r : ℕ) (w : Word) → usedIn b r ≡ true → 2 ≤ r → nodeIn b r ≡ spelt w → stands w [] ≡ false
+  none-stands r w u l n =
+      let d = word-row (covers g) r u l in
+      let f : w ≡ d .0 = cc (d .1) in
+      not-true-false (stands w []) λ t. d .2 .non-empty (cc (stands-of-empty (stands-true w [] t)))
+
   pub counting-first : (rows counts : Word) → counts ≡ replicate 1026 0 → Counting b rows 0 rows counts
   counting-first rows counts e =
       rw e (record {
@@ -63,15 +69,9 @@ module _ {b : Word} (g : Good b) where
         new = λ j l. absurd (omega arith);
         old = λ j l. absurd (omega arith);
         small = λ r. omega (arith, noughts 1026 r);
-        stood = λ r w u l n. ap (ltb 0) (noughts 1026 r) ∙ sym (none r w u l n);
+        stood = λ r w u l n. ap (ltb 0) (noughts 1026 r) ∙ sym (none-stands r w u l n);
         weight = λ w p. weigh-noughts (endsWith b w) 1026 ∙ sym (frequency-empty w (p .non-empty));
       })
-    where
-      none : (r : ℕ) (w : Word) → usedIn b r ≡ true → 2 ≤ r → nodeIn b r ≡ spelt w → stands w [] ≡ false
-      none r w u l n =
-          let d = word-row (covers g) r u l in
-          let f : w ≡ d .0 = cc (d .1) in
-          not-true-false (stands w []) λ t. d .2 .non-empty (cc (stands-of-empty (stands-true w [] t)))
 
   -- ---- one letter more
 
@@ -190,7 +190,7 @@ module _ {b : Word} (g : Good b) where
 
   module _ {rows ends counts : Word} {k : ℕ} (e : k ≡ sizeIn b) (c : Counting b rows k ends counts) where
     all : take (sizeIn b) (lettersIn b) ≡ lettersIn b
-    all = rw (← letters-length (g .sized)) (take-length (lettersIn b))
+    all = read-whole g (sizeIn b) refl
 
     pub first-rows : sizeIn b ≤ length rows → FirstRows b ends
     first-rows f =

@@ -10,48 +10,36 @@ use mathlib.Core.Logic.{_⊎_, _≢_, ⊎-elim}
 use mathlib.Core.List.{[], _∷_, _++_}
 use lib.Dec.{ltb}
 use lib.ListN.{length, getD, set, take, length-set}
-use lib.Seq.{getD-set-other, take-suc, take-length}
+use lib.Seq.{getD-set-other}
 use borrow.Author.Tests.{lt-ltb, le-ltb, not-true, not-false}
 use Rattle.palindromes.specs.Word.{Word, sameWord, member}
-use Rattle.palindromes.specs.Palindrome.{Symmetric, Palindrome}
+use Rattle.palindromes.specs.Palindrome.{Palindrome}
 use Rattle.palindromes.specs.Place.{Stands, Suffix, frequency, stands}
 use Rattle.palindromes.specs.Record.{suffixes, longestSuffix}
 use Rattle.palindromes.specs.Occurrences.{occurrencesByRow}
-use Rattle.palindromes.specs.Node.{Node, imaginary, spelt, linkOf, spellingOf}
+use Rattle.palindromes.specs.Node.{Node, imaginary, spelt, spellingOf}
 use Rattle.palindromes.proofs.Tests.{both-true, false-not-true, not-true-false, same-true}
-use Rattle.palindromes.proofs.Words.{same-or-not, suffix-refl, suffix-of-empty, suffix-stands, stands-trans, stands-snoc, stands-of-empty}
+use Rattle.palindromes.proofs.Words.{same-or-not, suffix-refl, suffix-of-empty, suffix-stands, stands-trans, stands-snoc}
 use Rattle.palindromes.proofs.Places.{stands-true, stands-is, stands-empty}
 use Rattle.palindromes.proofs.Stretches.{suffixes-true, suffixes-is}
 use Rattle.palindromes.proofs.Longest.{longest-suffix}
-use Rattle.palindromes.proofs.Growth.{link-stood}
 use Rattle.palindromes.proofs.Palindromes.{longest-palindrome}
 use Rattle.palindromes.proofs.SuffixPalindromes.{ends-link}
 use Rattle.palindromes.proofs.Frequency.{frequency-most}
 use Rattle.palindromes.proofs.Occurrences.{occurrences-agree, occurrences-limit, frequenciesOf, by-row-whole, by-row-empty, prefix-by-row}
-use Rattle.eertree.proofs.Rows.{empty-row, word-row, row-high}
+use Rattle.eertree.proofs.Entries.{same-word}
+use Rattle.eertree.proofs.Rows.{empty-row, row-high}
 use Rattle.store.specs.Layout.{sizeIn, usedIn, linkIn, lettersIn}
 use Rattle.store.specs.Good.{ruleOf, nodeIn, Good}
 use Rattle.store.proofs.Sizes.{letters-length}
-use Rattle.transitions.proofs.Rows.{covers, used-root}
+use Rattle.transitions.proofs.Rows.{covers, used-root, row-below, size-most}
 use Rattle.walk.specs.Replay.{endingIn, newAt, Holds}
-use Rattle.walk.proofs.Reading.{read-stands, met-other, met-ending, ending-row}
-use Rattle.end_rows.proofs.Numbers.{row-below}
-use Rattle.frequencies.specs.Frequencies.{Frequencies}
+use Rattle.walk.proofs.Reading.{read-more, read-stands, read-whole, met-other, met-ending, ending-row}
+use Rattle.walk.proofs.Links.{Linked, linked}
+use Rattle.frequencies.specs.Frequencies.{RowFrequencies}
 use Rattle.frequencies.specs.Counts.{weigh, endsWith, openWith, HandedFrom, FirstRows, Handable, handed, handedOn}
+use Rattle.frequencies.proofs.Counting.{none-stands}
 use Rattle.frequencies.proofs.Weigh.{counted, weigh-set, weigh-agree, weigh-without, weigh-none, weigh-least}
-
--- the palindrome of the link of the row that is new with one letter more than k: it stood before, and what ends the new one is it or ends its link
-record Link (b : Word) (k last : ℕ) : Type 0 where
-  word : Word
-  used : usedIn b (linkIn b last) ≡ true
-  holds : nodeIn b (linkIn b last) ≡ spelt word
-  stood : Stands word (take k (lettersIn b))
-  symmetric : Symmetric (ruleOf b) word
-  ends : (w : Word) → Palindrome (ruleOf b) w → member w (suffixes (endingIn b (k + 1))) ≡ (sameWord w (endingIn b (k + 1)) || member w (suffixes word))
-
-word : {v w : Word} → spelt v ≡ spelt w → v ≡ w
-unfolding spellingOf
-word e = ap spellingOf e
 
 -- a row in use whose palindrome stands is open to those that end it
 opened : (b : Word) (k r : ℕ) (v w : Word) → stands v (take k (lettersIn b)) ≡ true → usedIn b r ≡ true → nodeIn b r ≡ spelt v → openWith b k w r ≡ member w (suffixes v)
@@ -73,7 +61,7 @@ module _ {b : Word} (g : Good b) {k : ℕ} (l : k < sizeIn b) where
 
   -- what is read is one letter longer
   longer : after ≡ before ++ (getD (lettersIn b) k 0 ∷ [])
-  longer = rw (add-one, take-suc (lettersIn b) k 0 in-letters)
+  longer = read-more (lettersIn b) k in-letters
 
   -- so what stood stands
   stands-later : {w : Word} → Stands w before → Stands w after
@@ -143,28 +131,17 @@ module _ {b : Word} (g : Good b) {k : ℕ} (l : k < sizeIn b) where
       repeat : Palindrome (ruleOf b) here
       repeat = longest-palindrome (ruleOf b) after not-empty
 
-      link : Link b k last
-      unfolding linkOf
-      link = go here refl
-        where
-          go : (e : Word) → here ≡ e → Link b k last
-          go [] i = absurd (not-empty i)
-          go (x ∷ t) i =
-              let j = covers g .link-is last (h .used) in
-              let s = subst (λ (z : Word). Palindrome (ruleOf b) z) i repeat .symmetric in
-              record {
-                word = longestSuffix (ruleOf b) t;
-                used = j .0;
-                holds = j .1 ∙ ap (linkOf (ruleOf b)) (h .holds ∙ ap spelt i);
-                stood = link-stood (ruleOf b) before (getD (lettersIn b) k 0) s (subst (Stands (x ∷ t)) longer (rw (← i) (suffix-stands (longest-suffix (ruleOf b) after .suffix))));
-                symmetric = longest-suffix (ruleOf b) t .symmetric;
-                ends = λ w p. rw i (ends-link (ruleOf b) w p x t s);
-              }
+      link : Linked b k last
+      link = linked g l h high
+
+      -- the palindrome of its link, which stood before
+      abbrev shorter : Word
+      shorter = longestSuffix (ruleOf b) (link .rest)
 
       -- its row is another
       other : linkIn b last ≢ last
       other e =
-          let i : here ≡ link .word = word (sym (h .holds) ∙ ap (nodeIn b) (sym e) ∙ link .holds) in
+          let i : here ≡ shorter = same-word (sym (h .holds) ∙ ap (nodeIn b) (sym e) ∙ link .holds) in
           false-not-true fresh (stands-is here before (rw i (link .stood)))
 
       module _ {counts : Word} (c : HandedFrom b (k + 1) counts) where
@@ -182,14 +159,15 @@ module _ {b : Word} (g : Good b) {k : ℕ} (l : k < sizeIn b) where
         unfolding spellingOf
         open-gone w = let f : stands (spellingOf (nodeIn b last)) before ≡ false = rw (h .holds) fresh in ap (λ (x : Bool). x && endsWith b w last) f
 
-        open-link : (w : Word) → openWith b k w (linkIn b last) ≡ member w (suffixes (link .word))
-        open-link w = opened b k (linkIn b last) (link .word) w (stands-is (link .word) before (link .stood)) (link .used) (link .holds)
+        open-link : (w : Word) → openWith b k w (linkIn b last) ≡ member w (suffixes shorter)
+        open-link w = opened b k (linkIn b last) shorter w (stands-is shorter before (link .stood)) (link .used) (link .holds)
 
         -- a palindrome that stood before ends the new one exactly if it ends its link
-        ends-both : (w : Word) → Palindrome (ruleOf b) w → Stands w before → member w (suffixes here) ≡ member w (suffixes (link .word))
+        ends-both : (w : Word) → Palindrome (ruleOf b) w → Stands w before → member w (suffixes here) ≡ member w (suffixes shorter)
         ends-both w p s =
             let f : sameWord w here ≡ false = not-true-false (sameWord w here) λ t. false-not-true fresh (stands-is here before (subst (λ (v : Word). Stands v before) (same-true w here t) s)) in
-            link .ends w p ∙ ap (λ (t : Bool). t || member w (suffixes (link .word))) f
+            ap (λ (v : Word). member w (suffixes v)) (link .ends) ∙ ends-link (ruleOf b) w p (link .first) (link .rest) (link .symmetric)
+            ∙ ap (λ (t : Bool). t || member w (suffixes shorter)) (ap (sameWord w) (sym (link .ends)) ∙ f)
 
         -- ---- its own number is whole
 
@@ -212,9 +190,9 @@ module _ {b : Word} (g : Good b) {k : ℕ} (l : k < sizeIn b) where
 
         lost : (w : Word) → Palindrome (ruleOf b) w → Stands w before
             → weigh (openWith b (k + 1) w) counts ≡ counted (openWith b k w (linkIn b last)) (getD counts last 0) + weigh (openWith b k w) counts
-        lost w p s = go (member w (suffixes (link .word))) refl
+        lost w p s = go (member w (suffixes shorter)) refl
           where
-            go : (t : Bool) → member w (suffixes (link .word)) ≡ t
+            go : (t : Bool) → member w (suffixes shorter) ≡ t
                 → weigh (openWith b (k + 1) w) counts ≡ counted (openWith b k w (linkIn b last)) (getD counts last 0) + weigh (openWith b k w) counts
             go true e =
                 let at = open-new w ∙ ends-both w p s ∙ e in
@@ -228,16 +206,16 @@ module _ {b : Word} (g : Good b) {k : ℕ} (l : k < sizeIn b) where
         -- ---- its link's can be raised
 
         -- a link that is no root's is a palindrome
-        link-repeat : 2 ≤ linkIn b last → Palindrome (ruleOf b) (link .word)
+        link-repeat : 2 ≤ linkIn b last → Palindrome (ruleOf b) shorter
         link-repeat m =
             record {
               non-empty = λ e. let i = empty-row (covers g) (linkIn b last) (link .used) (link .holds ∙ ap spelt e) in omega arith;
-              symmetric = link .symmetric;
+              symmetric = longest-suffix (ruleOf b) (link .rest) .symmetric;
             }
 
         pub new-few : 2 ≤ linkIn b last → getD counts (linkIn b last) 0 + getD counts last 0 < 65536
         new-few m =
-            let v = link .word in
+            let v = shorter in
             let p = link-repeat m in
             let at : openWith b k v (linkIn b last) ≡ true = open-link v ∙ suffixes-is v v (p .non-empty) suffix-refl in
             let f : weigh (openWith b (k + 1) v) counts ≡ getD counts last 0 + weigh (openWith b k v) counts = lost v p (link .stood) ∙ ap (λ (t : Bool). counted t (getD counts last 0) + weigh (openWith b k v) counts) at in
@@ -248,8 +226,7 @@ module _ {b : Word} (g : Good b) {k : ℕ} (l : k < sizeIn b) where
               weigh-least (openWith b k v) counts (linkIn b last) link-in-counts at,
               frequency-most v (p .non-empty) (lettersIn b),
               letters-length (g .sized),
-              g .sized .letters-fit,
-              g .sized .at-most,
+              size-most g,
             )
 
         -- ---- and is
@@ -269,7 +246,7 @@ module _ {b : Word} (g : Good b) {k : ℕ} (l : k < sizeIn b) where
 
         not-link : (r : ℕ) (w : Word) → nodeIn b r ≡ spelt w → stands w before ≡ false → r ≢ linkIn b last
         not-link r w e s i =
-            let j : w ≡ link .word = word (sym e ∙ ap (nodeIn b) i ∙ link .holds) in
+            let j : w ≡ shorter = same-word (sym e ∙ ap (nodeIn b) i ∙ link .holds) in
             false-not-true s (stands-is w before (rw j (link .stood)))
 
         to-root : linkIn b last < 2 → HandedFrom b k counts
@@ -283,9 +260,9 @@ module _ {b : Word} (g : Good b) {k : ℕ} (l : k < sizeIn b) where
             -- a root ends with no palindrome
             closed : (w : Word) → Palindrome (ruleOf b) w → openWith b k w (linkIn b last) ≡ false
             closed w p =
-                open-link w ∙ not-true-false (member w (suffixes (link .word))) λ t.
-                let e = suffixes-true w (link .word) t in
-                let n : link .word ≡ [] → ⊥ = λ i. e .0 (suffix-of-empty (subst (Suffix w) i (e .1))) in
+                open-link w ∙ not-true-false (member w (suffixes shorter)) λ t.
+                let e = suffixes-true w shorter t in
+                let n : shorter ≡ [] → ⊥ = λ i. e .0 (suffix-of-empty (subst (Suffix w) i (e .1))) in
                 omega (arith, row-high (covers g) (linkIn b last) (link .holds) n)
 
         to-row : HandedFrom b k raised
@@ -326,24 +303,18 @@ module _ {b : Word} (g : Good b) where
   -- before the first
   pub adding-first : {counts : Word} → HandedFrom b (sizeIn b) counts → Adding b (sizeIn b) counts 0
   adding-first c =
-      let all : take (sizeIn b) (lettersIn b) ≡ lettersIn b = rw (← letters-length (g .sized)) (take-length (lettersIn b)) in
+      let all = read-whole g (sizeIn b) refl in
       record { inside = omega arith; rows = c; sum = omega (arith, ap (frequenciesOf (ruleOf b) (lettersIn b)) all, by-row-whole (ruleOf b) (lettersIn b)) }
 
   -- after the last each number is the frequency, and their sum is known
-  pub adding-last : {counts : Word} {total : ℕ} → Adding b 0 counts total → Frequencies b counts × (total ≡ occurrencesByRow (ruleOf b) (lettersIn b))
+  pub adding-last : {counts : Word} {total : ℕ} → Adding b 0 counts total → RowFrequencies b counts × (total ≡ occurrencesByRow (ruleOf b) (lettersIn b))
   adding-last {counts} a =
-      (record { long = a .rows .long; each = λ r w u l e. a .rows .done r w u l e (nowhere r w u l e) }, omega (arith, a .sum, by-row-empty (ruleOf b) (lettersIn b)))
-    where
-      nowhere : (r : ℕ) (w : Word) → usedIn b r ≡ true → 2 ≤ r → nodeIn b r ≡ spelt w → stands w [] ≡ false
-      nowhere r w u l e =
-          let d = word-row (covers g) r u l in
-          let i : w ≡ d .0 = word (sym e ∙ d .1) in
-          not-true-false (stands w []) λ t. d .2 .non-empty (sym i ∙ stands-of-empty (stands-true w [] t))
+      (record { long = a .rows .long; each = λ r w u l e. a .rows .done r w u l e (none-stands g r w u l e) }, omega (arith, a .sum, by-row-empty (ruleOf b) (lettersIn b)))
 
   -- the sum is small all the way
   pub adding-small : {k : ℕ} {counts : Word} {total : ℕ} → Adding b k counts total → total ≤ 524800
   adding-small a =
-      omega (arith, a .sum, occurrences-agree (ruleOf b) (lettersIn b), occurrences-limit (ruleOf b) (lettersIn b) (omega (arith, letters-length (g .sized), g .sized .letters-fit, g .sized .at-most)))
+      omega (arith, a .sum, occurrences-agree (ruleOf b) (lettersIn b), occurrences-limit (ruleOf b) (lettersIn b) (omega (arith, letters-length (g .sized), size-most g)))
 
   module _ {firsts : Word} {k : ℕ} (l : k < sizeIn b) (f : FirstRows b firsts) where
     abbrev first : ℕ
@@ -369,7 +340,7 @@ module _ {b : Word} (g : Good b) where
             record {
               long = c .long;
               used = h .used;
-              small = λ m. omega (arith, w, frequency-most (endingIn b (k + 1)) (not-empty g l h n) (lettersIn b), letters-length (g .sized), g .sized .letters-fit, g .sized .at-most);
+              small = λ m. omega (arith, w, frequency-most (endingIn b (k + 1)) (not-empty g l h n) (lettersIn b), letters-length (g .sized), size-most g);
               few = λ m. new-few g l h n c;
             }
         go false n =

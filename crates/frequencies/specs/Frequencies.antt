@@ -10,6 +10,6 @@ use Rattle.store.specs.Layout.{usedIn, lettersIn}
 use Rattle.store.specs.Good.{nodeIn}
 
 -- at each row in use but the roots stands how often its palindrome stands in the record
-pub record Frequencies (b counts : Word) : Type 0 where
+pub record RowFrequencies (b counts : Word) : Type 0 where
   pub long : length counts ≡ 1026
   pub each : (r : ℕ) (w : Word) → usedIn b r ≡ true → 2 ≤ r → nodeIn b r ≡ spelt w → getD counts r 0 ≡ frequency w (lettersIn b)

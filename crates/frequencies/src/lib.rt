@@ -6,14 +6,14 @@ ghost use Rattle.palindromes.specs.Occurrences.{occurrencesByRow};
 ghost use Rattle.store.specs.Layout.{sizeIn, lettersIn};
 ghost use Rattle.store.specs.Good.{ruleOf, Good};
 ghost use Rattle.end_rows.specs.EndRows.{EndRows};
-ghost use Rattle.frequencies.specs.Frequencies.{Frequencies};
+ghost use Rattle.frequencies.specs.Frequencies.{RowFrequencies};
 ghost use Rattle.frequencies.specs.Counts.{HandedFrom, FirstRows, Handable, handed, handedOn};
 use store::header;
 use store::rows;
 use store::rows::Row;
 
 // Counts at each row the right ends at which its palindrome is the longest, and leaves at each right end the row that is
-// first met there, or 0.
+// first met there, or a root's.
 fn count_longest(b: &[u8], ends: &mut [u16], counts: &mut [u16])
     requires { ⌜ Good (now b) ⌝ }
     requires { ⌜ EndRows (now b) (now ends) ⌝ }
@@ -56,7 +56,7 @@ fn add_along_links(b: &[u8], firsts: &[u16], counts: &mut [u16]) -> usize
     requires { ⌜ Good (now b) ⌝ }
     requires { ⌜ FirstRows (now b) (now firsts) ⌝ }
     requires { ⌜ HandedFrom (now b) (sizeIn (now b)) (now counts) ⌝ }
-    ensures each { λ _. ⌜ Frequencies (now (b .entry)) (now (counts .exit)) ⌝ }
+    ensures each { λ _. ⌜ RowFrequencies (now (b .entry)) (now (counts .exit)) ⌝ }
     ensures total { λ r. ⌜ r ≡ occurrencesByRow (ruleOf (now (b .entry))) (lettersIn (now (b .entry))) ⌝ }
 {
     let mut total = 0;

@@ -2,13 +2,12 @@
 use Prim.Native.Nat.{ℕ, _≤_, _<_}
 use mathlib.Core.Path.{_≡_, refl, sym}
 use mathlib.Core.Bool.{true, false}
-use native.Mathlib.Omega.{arith}
 use Rattle.palindromes.specs.Word.{Word}
 use Rattle.palindromes.specs.Place.{frequency}
 use Rattle.palindromes.specs.Occurrences.{occurrencesByRow, occurrencesByEnd}
 use Rattle.palindromes.specs.Node.{spellingOf}
 use Rattle.palindromes.specs.Refusal.{ask, theFrequency, theOccurrences}
-use Rattle.store.specs.Layout.{sizeIn, usedIn, lettersIn}
+use Rattle.store.specs.Layout.{usedIn, lettersIn}
 use Rattle.store.specs.Good.{ruleOf, nodeIn, Good}
 use Rattle.outcome.specs.Reply.{packed, accepted, answered}
 use Rattle.outcome.specs.Wide.{wideAnswer}
@@ -38,10 +37,6 @@ frequency-answered q b a p = carried (ask (theFrequency q)) b nothing (a .good) 
 -- ---- all of them
 
 module _ (b : Word) (g : Good b) where
-  -- there is a place for each right end
-  pub ends-fit : sizeIn b ≤ 1024
-  ends-fit = omega (arith, g .sized .letters-fit, g .sized .at-most)
-
   pub occurrences-answered : {r : ℕ} → r ≡ packed (answered (wideAnswer (occurrencesByRow (ruleOf b) (lettersIn b)) (occurrencesByEnd (ruleOf b) (lettersIn b)))) → Promise (ask theOccurrences) b nothing r b nothing
   unfolding acceptedOutcome answerTo lentAfter changed
   occurrences-answered e = carried (ask theOccurrences) b nothing g (occurrences-accepted b nothing) (record { reply = e; store = refl; lent = refl })

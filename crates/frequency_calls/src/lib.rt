@@ -36,8 +36,8 @@ pub fn frequency(store: &[u8], row: u64) -> u64
     if number != 0 {
         return refuse(number);
     }
-    let found = suffix_palindromes::frequency(store, row as usize);
-    pack(false, 0, found, 0)
+    let places = suffix_palindromes::frequency(store, row as usize);
+    pack(false, 0, places, 0)
 }
 
 // How many repeats stand, counted by place: over the rows and over the right ends.

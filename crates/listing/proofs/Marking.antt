@@ -1,6 +1,6 @@
 -- The marks of a walk over the letters: each step marks the row of the longest palindrome that then ends what is read, so that a palindrome of the window has its mark exactly if it stands in
 -- what is read; and it is met for the first time exactly if its row has no mark yet.
--- Rests on `prefix-met` of palindromes, on the laws of bits, and on those of a good store's rows: no two rows in use have the same rank.
+-- Rests on what one letter more brings (`met-other`, `met-ending` of the walk), on the laws of bits, and on those of a good store's rows: no two rows in use have the same rank.
 use Prim.Native.Nat.{ℕ, _+_, _-_, _*_, _/_, _≤_, _<_}
 use native.Mathlib.Omega.{arith}
 use native.Mathlib.Decide.{decLt}

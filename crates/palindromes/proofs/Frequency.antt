@@ -1,4 +1,4 @@
--- How often a word stands, letter by letter at the right end: one place more where it ends the record (`frequency-snoc`). So it is how often it stands among the stretches (`frequency-stretches`), and
+-- How often a word that is not empty stands, letter by letter at the right end: one place more where it ends the record (`frequency-snoc`). So it is how often it stands among the stretches (`frequency-stretches`), and
 -- no more often than there are letters. Rests on `Places` and `Stretches`.
 use Prim.Native.Nat.{ℕ, suc, _+_, _≤_, _<_}
 use native.Mathlib.Omega.{arith}
@@ -65,7 +65,7 @@ module _ (p : Word) where
           (λ q. starts-is p t (record { after = []; whole = append-nil p ∙ same-true p t q }))
           (either-true (startsWith p s) (sameWord p t) e)
 
-  -- the whole of a longer record neither begins the record nor ends it a letter later
+  -- a word cannot be the whole of the longer record and begin the shorter one, nor be the whole of a record and end it a letter later
   one-starts : (s : Word) (c : ℕ) → one (startsWith p (s ++ (c ∷ []))) ≡ one (startsWith p s) + one (sameWord p (s ++ (c ∷ [])))
   one-starts s c =
       ap one (starts-snoc s c)

@@ -24,7 +24,7 @@ use Rattle.palindromes.proofs.Frequency.{one, times, times-cons, freque
 
 -- ---- sums
 
-pub sum-append : (a b : List ℕ) → sum (a ++ b) ≡ sum a + sum b
+sum-append : (a b : List ℕ) → sum (a ++ b) ≡ sum a + sum b
 unfolding sum
 sum-append [] b = omega arith
 sum-append (k ∷ a) b = omega (arith, sum-append a b)

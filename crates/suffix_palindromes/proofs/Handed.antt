@@ -2,57 +2,39 @@
 -- in what is read had its number before (`handed-next`, `handed-root`). The row's link was met before it (`linked`), so the row's mark is its link's, or 1 if the row is the wanted one
 -- (`marks-other`, `marks-wanted`), and its chain is one longer than its link's (`chains-word`). The marks add up to the frequency (`frequency-next`), the chains to all palindromes by their ends
 -- (`by-end-next`).
--- Rests on `at-most-one-new` and `link-stood` of palindromes, on `SuffixPalindromes`, `Frequency` and `Occurrences` there, and on the laws of a good store's rows: no two rows hold the same node.
+-- Rests on what one letter more brings (`Reading` and `Links` of the walk), on `SuffixPalindromes`, `Frequency` and `Occurrences` of palindromes, and on the laws of a good store's rows: no two hold the same node.
 use Prim.Native.Nat.{ℕ, suc, _+_, _≤_, _<_}
 use native.Mathlib.Omega.{arith}
 use native.Mathlib.Numerals.{add-one}
 use native.Mathlib.Decide.{ℕ-discrete}
-use mathlib.Core.Path.{_≡_, refl, sym, ap, _∙_, subst, subst₂}
+use mathlib.Core.Path.{_≡_, sym, ap, _∙_, subst}
 use mathlib.Core.Bool.{Bool, true, false, cond, _||_}
-use mathlib.Core.Logic.{_⊎_, ⊎-elim}
-use mathlib.Core.List.{[], _∷_, _++_, cons-ne-nil}
+use mathlib.Core.Logic.{_⊎_, inl, inr, ⊎-elim}
+use mathlib.Core.List.{[]}
 use lib.ListN.{length, getD, set, take, replicate, length-set, length-take, length-replicate, getD-replicate}
-use lib.Seq.{take-suc, take-length, getD-set-same, getD-set-other}
+use lib.Seq.{getD-set-same, getD-set-other}
 use Rattle.palindromes.specs.Word.{Word, sameWord, member}
-use Rattle.palindromes.specs.Palindrome.{Symmetric, Palindrome}
+use Rattle.palindromes.specs.Palindrome.{Palindrome}
 use Rattle.palindromes.specs.Place.{Stands, frequency}
 use Rattle.palindromes.specs.Record.{suffixes, longestSuffix}
 use Rattle.palindromes.specs.Occurrences.{occurrencesByEnd}
-use Rattle.palindromes.specs.Node.{Node, spelt, linkOf, spellingOf}
+use Rattle.palindromes.specs.Node.{Node, spelt, spellingOf}
 use Rattle.palindromes.proofs.Tests.{not-true-false, same-true, same-is}
 use Rattle.palindromes.proofs.Lists.{not-in-nil}
-use Rattle.palindromes.proofs.Words.{suffix-stands, stands-length, stands-of-empty}
-use Rattle.palindromes.proofs.Longest.{longest-suffix}
-use Rattle.palindromes.proofs.Places.{stands-empty}
-use Rattle.palindromes.proofs.Change.{at-most-one-new}
-use Rattle.palindromes.proofs.Growth.{link-stood}
+use Rattle.palindromes.proofs.Words.{same-or-not, stands-length, stands-of-empty}
+use Rattle.palindromes.proofs.Places.{stands-true, stands-is, stands-empty}
 use Rattle.palindromes.proofs.SuffixPalindromes.{ending-none, ending-longest, ending-link, ending-few, ends-longest, ends-link}
 use Rattle.palindromes.proofs.Frequency.{prefix-frequency, frequency-empty, frequency-most}
 use Rattle.palindromes.proofs.Occurrences.{by-end-empty, prefix-by-end, occurrences-limit}
-use Rattle.eertree.specs.Covers.{NodeOf}
-use Rattle.eertree.proofs.Rows.{empty-row, row-high, word-row}
+use Rattle.eertree.proofs.Rows.{word-row}
 use Rattle.store.specs.Layout.{sizeIn, linkIn, usedIn, lettersIn}
 use Rattle.store.specs.Good.{ruleOf, nodeIn, Good}
 use Rattle.store.proofs.Sizes.{letters-length}
-use Rattle.transitions.proofs.Rows.{covers}
+use Rattle.transitions.proofs.Rows.{covers, row-below, size-most}
 use Rattle.walk.specs.Replay.{endingIn, Holds}
-use Rattle.end_rows.proofs.Numbers.{row-below}
+use Rattle.walk.proofs.Reading.{root-empty, met-other}
+use Rattle.walk.proofs.Links.{linked}
 use Rattle.suffix_palindromes.specs.Handed.{endingWith, chainLength, Handed, Hands}
-
--- the word that ends the letters read, and the row of its link, which stood before the last letter
-record Linked (b : Word) (k row : ℕ) : Type 0 where
-  first : ℕ
-  rest : Word
-  ends : endingIn b (k + 1) ≡ first ∷ rest
-  symmetric : Symmetric (ruleOf b) (first ∷ rest)
-  used : usedIn b (linkIn b row) ≡ true
-  holds : nodeIn b (linkIn b row) ≡ spelt (longestSuffix (ruleOf b) rest)
-  stood : Stands (longestSuffix (ruleOf b) rest) (take k (lettersIn b))
-
--- the link of a word that is not empty
-link-of-word : (σ : ℕ → ℕ) (x : ℕ) (t : Word) {n : Node} → n ≡ spelt (x ∷ t) → linkOf σ n ≡ spelt (longestSuffix σ t)
-unfolding linkOf
-link-of-word σ x t e = ap (linkOf σ) e
 
 -- what a node spells
 spells : {n : Node} {w : Word} → n ≡ spelt w → spellingOf n ≡ w
@@ -69,12 +51,9 @@ pub chain-none : (σ : ℕ → ℕ) → chainLength σ [] ≡ 0
 chain-none σ = ap length (ending-none σ)
 
 module _ {b : Word} (g : Good b) where
-  -- while a letter is left to read, that letter comes next
+  -- while a letter is left to read it is one of the record
   read-size : (k : ℕ) → k < sizeIn b → k < length (lettersIn b)
   read-size k l = omega (arith, letters-length (g .sized))
-
-  read-more : (k : ℕ) → k < sizeIn b → take (k + 1) (lettersIn b) ≡ take k (lettersIn b) ++ (getD (lettersIn b) k 0 ∷ [])
-  read-more k l = rw (add-one k, take-suc (lettersIn b) k 0 (read-size k l)) refl
 
   -- ---- the first letter
 
@@ -89,42 +68,10 @@ module _ {b : Word} (g : Good b) where
   -- ---- one letter more
 
   module _ {k row : ℕ} (l : k < sizeIn b) (h : Holds b (k + 1) row) where
-    -- what ends the letters read stands in them
-    ends-in : Stands (endingIn b (k + 1)) (take (k + 1) (lettersIn b))
-    ends-in = suffix-stands (longest-suffix (ruleOf b) (take (k + 1) (lettersIn b)) .suffix)
-
     -- a palindrome that stands now ends the letters read, or stood before
     here-or-before : (r : ℕ) (v : Word) → usedIn b r ≡ true → nodeIn b r ≡ spelt v → Stands v (take (k + 1) (lettersIn b)) → (v ≡ endingIn b (k + 1)) ⊎ Stands v (take k (lettersIn b))
     here-or-before r v u e s =
-        let n : NodeOf (ruleOf b) (lettersIn b) (spelt v) = subst (NodeOf (ruleOf b) (lettersIn b)) e (covers g .each-row r u) in
-        rw (read-more k l) (at-most-one-new (ruleOf b) (take k (lettersIn b)) v (getD (lettersIn b) k 0) (n .0) (rw (read-more k l) at s))
-
-    -- a root's row holds the empty word
-    root-empty : row < 2 → endingIn b (k + 1) ≡ []
-    root-empty m = go (endingIn b (k + 1)) refl
-      where
-        go : (e : Word) → endingIn b (k + 1) ≡ e → e ≡ []
-        go [] q = refl
-        go (x ∷ t) q = absurd (omega (arith, row-high (covers g) row (h .holds ∙ ap spelt q) (cons-ne-nil x t)))
-
-    -- any other row's link was met before
-    linked : 2 ≤ row → Linked b k row
-    linked m = go (endingIn b (k + 1)) refl
-      where
-        go : (e : Word) → endingIn b (k + 1) ≡ e → Linked b k row
-        go [] q = absurd (omega (arith, empty-row (covers g) row (h .used) (h .holds ∙ ap spelt q)))
-        go (x ∷ t) q =
-            let s = subst (Symmetric (ruleOf b)) q (longest-suffix (ruleOf b) (take (k + 1) (lettersIn b)) .symmetric) in
-            let p = covers g .link-is row (h .used) in
-            record {
-              first = x;
-              rest = t;
-              ends = q;
-              symmetric = s;
-              used = p .0;
-              holds = p .1 ∙ link-of-word (ruleOf b) x t (h .holds ∙ ap spelt q);
-              stood = link-stood (ruleOf b) (take k (lettersIn b)) (getD (lettersIn b) k 0) s (subst₂ Stands q (read-more k l) ends-in);
-            }
+        ⊎-elim inl (λ n. inr (stands-true v (take k (lettersIn b)) (met-other g l h r v u e n ∙ stands-is v (take (k + 1) (lettersIn b)) s))) (same-or-not v (endingIn b (k + 1)))
 
     -- the row gets the number of its word, and the others keep theirs
     handed-next : {f : Word → ℕ} {old : Word} → 2 ≤ row → Handed b f k old → Handed b f (k + 1) (set old row (f (endingIn b (k + 1))))
@@ -150,17 +97,17 @@ module _ {b : Word} (g : Good b) where
         }
       where
         empty : (v : Word) → v ≡ endingIn b (k + 1) → Stands v (take k (lettersIn b))
-        empty v n = rw (n, root-empty m) (stands-empty (take k (lettersIn b)))
+        empty v n = rw (n, root-empty g h m) (stands-empty (take k (lettersIn b)))
 
     -- the number of the link
-    link-value : {f : Word → ℕ} {old : Word} (m : 2 ≤ row) → Handed b f k old → getD old (linkIn b row) 0 ≡ f (longestSuffix (ruleOf b) (linked m .rest))
-    link-value m a = let t = linked m in a .tells (linkIn b row) (longestSuffix (ruleOf b) (t .rest)) (t .used) (t .holds) (t .stood)
+    link-value : {f : Word → ℕ} {old : Word} (m : 2 ≤ row) → Handed b f k old → getD old (linkIn b row) 0 ≡ f (longestSuffix (ruleOf b) (linked g l h m .rest))
+    link-value m a = let t = linked g l h m in a .tells (linkIn b row) (longestSuffix (ruleOf b) (t .rest)) (t .used) (t .holds) (t .stood)
 
   -- ---- what a row is handed
 
   -- a root nothing
   pub hands-root : {f : Word → ℕ} {row : ℕ} {old : Word} → f [] ≡ 0 → row < 2 → Hands b f row old old 0
-  hands-root {f} none m k l h a = (handed-root l h m a, sym (ap f (root-empty l h m) ∙ none))
+  hands-root {f} none m k l h a = (handed-root l h m a, sym (ap f (root-empty g h m) ∙ none))
 
   -- any other row what follows from the numbers so far
   hands-word : {f : Word → ℕ} {row value answer : ℕ} {old : Word} → 2 ≤ row → answer ≡ value
@@ -172,7 +119,7 @@ module _ {b : Word} (g : Good b) where
       → Hands b (chainLength (ruleOf b)) row old (set old row (getD old link 0 + 1)) answer
   chains-word {row} {link} {answer} {old} m e p =
       hands-word m p λ k l h a.
-      let t = linked l h m in
+      let t = linked g l h m in
       let c : chainLength (ruleOf b) (endingIn b (k + 1)) ≡ chainLength (ruleOf b) (longestSuffix (ruleOf b) (t .rest)) + 1 =
       ap (chainLength (ruleOf b)) (t .ends) ∙ ap length (ending-link (ruleOf b) (t .first) (t .rest) (t .symmetric)) ∙ sym (add-one (chainLength (ruleOf b) (longestSuffix (ruleOf b) (t .rest)))) in
       omega (arith, c, link-value l h m a, ap (λ (r : ℕ). getD old r 0) e)
@@ -180,9 +127,9 @@ module _ {b : Word} (g : Good b) where
   -- fewer palindromes than letters end the link, so one more fits
   pub chain-small : {k row : ℕ} {old : Word} → k < sizeIn b → Holds b (k + 1) row → 2 ≤ row → Handed b (chainLength (ruleOf b)) k old → getD old (linkIn b row) 0 < 65535
   chain-small {k} {row} l h m a =
-      let t = linked l h m in
+      let t = linked g l h m in
       let v = longestSuffix (ruleOf b) (t .rest) in
-      omega (arith, link-value l h m a, ending-few (ruleOf b) v, stands-length (t .stood), length-take k (lettersIn b), l, g .sized .at-most, g .sized .letters-fit)
+      omega (arith, link-value l h m a, ending-few (ruleOf b) v, stands-length (t .stood), length-take k (lettersIn b), l, size-most g)
 
   module _ {wanted : ℕ} (u : usedIn b wanted ≡ true) (w : 2 ≤ wanted) where
     -- the wanted row's palindrome
@@ -197,9 +144,9 @@ module _ {b : Word} (g : Good b) where
 
     -- it ends a word if it is that word, or if it ends that word's link
     wanted-ends : {k row : ℕ} (l : k < sizeIn b) (h : Holds b (k + 1) row) (m : 2 ≤ row)
-        → endingWith wantedWord (endingIn b (k + 1)) ≡ cond (sameWord wantedWord (endingIn b (k + 1)) || member wantedWord (suffixes (longestSuffix (ruleOf b) (linked l h m .rest)))) 1 0
+        → endingWith wantedWord (endingIn b (k + 1)) ≡ cond (sameWord wantedWord (endingIn b (k + 1)) || member wantedWord (suffixes (longestSuffix (ruleOf b) (linked g l h m .rest)))) 1 0
     wanted-ends {k} {row} l h m =
-        let t = linked l h m in
+        let t = linked g l h m in
         rw (t .ends) (ap {B = ℕ} (λ (x : Bool). cond x 1 0) (ends-link (ruleOf b) wantedWord wanted-palindrome (t .first) (t .rest) (t .symmetric)))
 
     -- the wanted row is marked with 1
@@ -207,7 +154,7 @@ module _ {b : Word} (g : Good b) where
     marks-wanted {row} m e p q =
         hands-word m q λ k l h a.
         let n : wantedWord ≡ endingIn b (k + 1) = cc (wanted-holds, h .holds, e) in
-        let t = longestSuffix (ruleOf b) (linked l h m .rest) in
+        let t = longestSuffix (ruleOf b) (linked g l h m .rest) in
         p ∙ sym (wanted-ends l h m ∙ ap {B = ℕ} (λ (x : Bool). cond (x || member wantedWord (suffixes t)) 1 0) (same-is n))
 
     -- and any other as its link is
@@ -216,7 +163,7 @@ module _ {b : Word} (g : Good b) where
     marks-other {row} {link} {value} {answer} {old} m d e p q =
         hands-word m q λ k l h a.
         let v = endingIn b (k + 1) in
-        let t = longestSuffix (ruleOf b) (linked l h m .rest) in
+        let t = longestSuffix (ruleOf b) (linked g l h m .rest) in
         let other : sameWord wantedWord v ≡ false = not-true-false (sameWord wantedWord v) λ s. d (covers g .one-row row wanted (h .used) u (cc (wanted-holds, h .holds, same-true wantedWord v s))) in
         p ∙ ap (λ (r : ℕ). getD old r 0) e ∙ link-value l h m a ∙ sym (wanted-ends l h m ∙ ap {B = ℕ} (λ (x : Bool). cond (x || member wantedWord (suffixes t)) 1 0) other)
 
@@ -248,8 +195,4 @@ module _ {b : Word} (g : Good b) where
       ∙ ap (λ (n : ℕ). occurrencesByEnd (ruleOf b) (take k (lettersIn b)) + n) (ap length (ending-longest (ruleOf b) (take (suc k) (lettersIn b)))))
 
   pub by-end-small : (k : ℕ) → occurrencesByEnd (ruleOf b) (take k (lettersIn b)) ≤ 524800
-  by-end-small k = occurrences-limit (ruleOf b) (take k (lettersIn b)) (omega (arith, length-take k (lettersIn b), letters-length (g .sized), g .sized .at-most, g .sized .letters-fit))
-
-  -- all letters
-  pub read-whole : (k : ℕ) → k ≡ sizeIn b → take k (lettersIn b) ≡ lettersIn b
-  read-whole k e = rw (e, ← letters-length (g .sized)) (take-length (lettersIn b))
+  by-end-small k = occurrences-limit (ruleOf b) (take k (lettersIn b)) (omega (arith, length-take k (lettersIn b), letters-length (g .sized), size-most g))

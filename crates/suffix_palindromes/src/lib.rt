@@ -19,7 +19,8 @@ use store::rows::Row;
 use walk::frame::frame_of;
 use walk::replay;
 
-// Marks a row with 1 if the wanted row's palindrome ends its own, and else with 0, as its link is marked; answers the mark.
+// Marks the wanted row with 1 and any other as its link is marked, so that the mark tells whether the wanted row's palindrome
+// ends the row's own; answers it, and 0 for a root.
 fn mark(b: &[u8], marks: &mut [u8], wanted: usize, row: usize) -> usize
     requires { ⌜ Good (now b) ⌝ }
     requires { ⌜ (usedIn (now b) wanted ≡ true) × (2 ≤ wanted) ⌝ }
@@ -29,13 +30,13 @@ fn mark(b: &[u8], marks: &mut [u8], wanted: usize, row: usize) -> usize
     if row <= Row::EMPTY {
         return 0;
     }
-    let ends = if row == wanted {
+    let marked = if row == wanted {
         1
     } else {
         marks[rows::link_of(b, row)]
     };
-    marks[row] = ends;
-    cells::wide(ends)
+    marks[row] = marked;
+    cells::wide(marked)
 }
 
 // Counts the right ends at which the wanted row's palindrome stands, with marks that begin empty.

@@ -57,6 +57,7 @@ module _ (m k : ℕ) (s : Word) (row : Word → ℕ) (b : Word) (st : State m k 
       let e = occurrences-equal (st .good) p in
       record {
         carried-out = r .0;
+        no-flag = r .1;
         by-rows = r .2 ∙ ap (λ (σ : ℕ → ℕ). occurrencesByRow σ (lettersIn b)) (rule-is st) ∙ ap (occurrencesByRow (ruleIn m)) (st .letters);
         by-ends = r .3 ∙ ap (λ (σ : ℕ → ℕ). occurrencesByEnd σ (lettersIn b)) (rule-is st) ∙ ap (occurrencesByEnd (ruleIn m)) (st .letters);
         equal = e .0;

@@ -9,7 +9,7 @@ use Rattle.palindromes.specs.Reading.{ruleIn}
 use Rattle.palindromes.specs.Place.{Stands, frequency}
 use Rattle.palindromes.specs.Occurrences.{occurrencesByRow, occurrencesByEnd}
 use Rattle.palindromes.specs.Refusal.{theFrequency, theOccurrences, ask}
-use Rattle.outcome.specs.Reply.{accepted, refusedWith, refusalIn}
+use Rattle.outcome.specs.Reply.{accepted, refusedWith, refusalIn, flagIn}
 use Rattle.outcome.specs.Wide.{byRowsIn, byEndsIn}
 use Rattle.outcome.specs.Outcome.{Lent}
 use Rattle.outcome.specs.Promise.{Promise}
@@ -18,6 +18,7 @@ use Rattle.traces.specs.Claims.{Replies}
 -- the fields of an answer to mirror_occurrences
 pub record BothSums (m : ℕ) (s : Word) (a : ℕ) : Type 0 where
   pub carried-out : refusalIn a ≡ 0
+  pub no-flag : flagIn a ≡ 0
   pub by-rows : byRowsIn a ≡ occurrencesByRow (ruleIn m) s
   pub by-ends : byEndsIn a ≡ occurrencesByEnd (ruleIn m) s
   pub equal : byRowsIn a ≡ byEndsIn a

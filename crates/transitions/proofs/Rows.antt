@@ -255,6 +255,17 @@ module _ {b : Word} (g : Good b) where
   pub link-small : (r : ℕ) → usedIn b r ≡ true → linkIn b r < 65536
   link-small r u = used-small (linkIn b r) (covers .link-is r u .0)
 
+  -- an array of 1,026 numbers has one for each used row, and for its link
+  pub row-below : (r : ℕ) → usedIn b r ≡ true → r < 1026
+  row-below r u = omega (arith, used-below b r u, g .sized .at-most)
+
+  pub link-below : {link : ℕ} (r : ℕ) → usedIn b r ≡ true → link ≡ linkIn b r → link < 1026
+  link-below r u e = omega (arith, row-below (linkIn b r) (covers .link-is r u .0))
+
+  -- and one of 1,024 one for each letter
+  pub size-most : sizeIn b ≤ 1024
+  size-most = omega (arith, g .sized .at-most, g .sized .letters-fit)
+
   -- the number of letters and of repeats, and one more
   pub size-small : sizeIn b + 1 < 65536
   size-small = omega (arith, g .sized .at-most, g .sized .letters-fit)

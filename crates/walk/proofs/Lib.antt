@@ -5,3 +5,4 @@ pub mod Towards
 pub mod Facing
 pub mod Stores
 pub mod Reading
+pub mod Links

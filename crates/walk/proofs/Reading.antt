@@ -1,15 +1,16 @@
 -- Reading the letters of a good store again, from left to right. Each step over the next letter leads from the row of the longest palindrome that ends what is read to the row of the longest that then
--- ends it (`good-step`); that is what the row spells, and no longer than what is read. And what an addition reads of a good store, towards either end.
--- Rests on `Found` and on `step-there` of tables.
+-- ends it (`good-step`); that is what the row spells, and no longer than what is read. One letter more brings that palindrome, and every other stands as it did (`met-ending`, `met-other`, `ending-row`);
+-- where a root's row is come to, nothing is new (`root-old`). And what an addition reads of a good store, towards either end.
+-- Rests on `Found`, on `step-there` of tables and on `prefix-met` of palindromes.
 use Prim.Native.Nat.{ℕ, _+_, _≤_, _<_}
 use native.Mathlib.Omega.{arith}
 use native.Mathlib.Numerals.{add-one}
 use mathlib.Core.Path.{_≡_, sym, ap, _∙_, subst}
 use mathlib.Core.Bool.{true, false, not, or-false}
-use mathlib.Core.Logic.{_⊎_, inl, inr}
+use mathlib.Core.Logic.{⊎-elim}
 use mathlib.Core.List.{[], _∷_, _++_}
 use lib.ListN.{length, getD, take, drop, length-take, take-append-drop}
-use lib.Seq.{take-suc}
+use lib.Seq.{take-suc, take-length}
 use Rattle.palindromes.specs.Word.{Word, isLetter, sameWord}
 use Rattle.palindromes.specs.Place.{Stands, stands}
 use Rattle.palindromes.specs.Record.{longestSuffix}
@@ -54,7 +55,7 @@ module _ {b : Word} (g : Good b) (e : End) where
 -- ---- from left to right
 
 -- one letter more is read
-read-more : (t : Word) (k : ℕ) → k < length t → take (k + 1) t ≡ take k t ++ (getD t k 0 ∷ [])
+pub read-more : (t : Word) (k : ℕ) → k < length t → take (k + 1) t ≡ take k t ++ (getD t k 0 ∷ [])
 read-more t k h = rw (add-one, take-suc t k 0)
 
 -- what is read stands in the whole
@@ -67,6 +68,10 @@ module _ {b : Word} (g : Good b) where
   holds-first =
       let h = shows-covers (g .table) in
       record { used = h .row-one .0; holds = h .row-one .1 ∙ ap spelt (sym (suffix-of-empty (longest-suffix (ruleOf b) [] .suffix))) }
+
+  -- all of them are read when as many are as the header says
+  pub read-whole : (k : ℕ) → k ≡ sizeIn b → take k (lettersIn b) ≡ lettersIn b
+  read-whole k e = rw (e, ← letters-length (g .sized)) (take-length (lettersIn b))
 
   -- what is read next is a letter
   pub read-letter : (k : ℕ) {d : ℕ} → k < sizeIn b → d ≡ getD (lettersIn b) k 0 → isLetter d ≡ true
@@ -94,13 +99,13 @@ module _ {b : Word} (g : Good b) where
 -- ---- what one letter more brings
 
 module _ {b : Word} (g : Good b) where
-  -- a root's palindrome stood before
+  -- a root's row holds the empty word
+  pub root-empty : {k last : ℕ} → Holds b k last → last < 2 → endingIn b k ≡ []
+  root-empty {k} {last} h m = ⊎-elim (λ e. e) (λ n. absurd (omega (arith, row-high (shows-covers (g .table)) last (h .holds) n))) (same-or-not (endingIn b k) [])
+
+  -- which stood before
   pub root-old : (k : ℕ) {last : ℕ} → Holds b (k + 1) last → last < 2 → newAt b k ≡ false
-  root-old k {last} h m = ap not (stood (same-or-not (endingIn b (k + 1)) []))
-    where
-      stood : (endingIn b (k + 1) ≡ []) ⊎ (endingIn b (k + 1) ≡ [] → ⊥) → stands (endingIn b (k + 1)) (take k (lettersIn b)) ≡ true
-      stood (inl e) = stands-is (endingIn b (k + 1)) (take k (lettersIn b)) (rw e (stands-empty (take k (lettersIn b))))
-      stood (inr n) = absurd (omega (arith, row-high (shows-covers (g .table)) last (h .holds) n))
+  root-old k h m = ap not (stands-is (endingIn b (k + 1)) (take k (lettersIn b)) (rw (root-empty h m) (stands-empty (take k (lettersIn b)))))
 
   module _ {k last : ℕ} (l : k < sizeIn b) (h : Holds b (k + 1) last) where
     -- a palindrome of the record other than the one that ends there stands if it did before

@@ -6,14 +6,14 @@ use mathlib.Core.Logic.{inl, inr, ⊎-elim}
 use lib.ListN.{length, getD, length-replicate}
 use Rattle.palindromes.specs.Word.{Word}
 use Rattle.store.specs.Layout.{sizeIn}
-use Rattle.transitions.proofs.Rows.{used-small, size-small}
+use Rattle.transitions.proofs.Rows.{used-small, row-below, size-small}
 use Rattle.walk.specs.Replay.{Holds}
 use Rattle.walk.proofs.Stores.{header-fits}
-use Rattle.end_rows.proofs.Numbers.{row-below}
 use Rattle.frequencies.proofs.Counting.{Counting, counting-first, counting-next, first-rows, none-handed}
 use Rattle.frequencies.proofs.count_longest.Statement.{statement}
 use Rattle.frequencies.proofs.count_longest.Tie as tie
 
+-- what holds when the first k of n right ends have been counted
 record Turn (b rows : Word) (n : ℕ) (ends counts : Word) (k : ℕ) : Type 0 where
   passed : k ≤ n
   counting : Counting b rows k ends counts

@@ -10,8 +10,7 @@ use borrow.Author.Needs.{needs}
 use borrow.Author.Tests.{lt-ltb, le-ltb}
 use Rattle.palindromes.specs.Word.{Word}
 use Rattle.store.specs.Layout.{linkIn}
-use Rattle.transitions.proofs.Rows.{used-fits}
-use Rattle.end_rows.proofs.Numbers.{row-below, link-below}
+use Rattle.transitions.proofs.Rows.{used-fits, row-below, link-below}
 use Rattle.frequencies.specs.Counts.{handed, handedOn}
 use Rattle.frequencies.proofs.hand_on.Statement.{statement}
 use Rattle.frequencies.proofs.hand_on.Tie as tie

@@ -4,13 +4,14 @@ use native.Mathlib.Omega.{arith}
 use mathlib.Core.Path.{refl, ap₂, _∙_}
 use borrow.Author.Needs.{needs}
 use Rattle.store.specs.Good.{Good}
+use Rattle.transitions.proofs.Rows.{size-most}
 use Rattle.outcome.specs.Reply.{packed, answered}
 use Rattle.outcome.specs.Wide.{wideAnswer}
 use Rattle.outcome.specs.Verdict.{damaged}
 use Rattle.outcome.proofs.Promises.{by-verdict}
 use Rattle.outcome.proofs.Fits.{few-occurrences}
 use Rattle.audit_fixed.proofs.Decided.{holds, fails}
-use Rattle.frequency_calls.proofs.Asking.{ends-fit, occurrences-answered}
+use Rattle.frequency_calls.proofs.Asking.{occurrences-answered}
 use Rattle.frequency_calls.proofs.occurrences.Statement.{statement}
 use Rattle.frequency_calls.proofs.occurrences.Tie as tie
 
@@ -23,15 +24,19 @@ returns c =
 good : (c : tie.Else1) → Good (c .before .before .before .args .store .now)
 good c = let g = c .before .is-good in holds _ (g .result) (g .ensures) (c .if1 .left)
 
--- both sums, from behind the second
+-- the test, from behind the sum over the rows
+abbrev tested : tie.After-occurrences-by-row → tie.Else1
+tested c = c .before .before .before .before .before .before .before
+
+-- both sums fit
 pack-wide-requires : tie.Need-pack-wide-requires
 pack-wide-requires c κs =
-    let n = few-occurrences (good (c .before .before .before .before .before .before .before .before)) in
+    let n = few-occurrences (good (tested (c .before))) in
     (omega (arith, n .0, c .before .occurrences-by-row .ensures), omega (arith, n .1, c .before .before .before .occurrences-by-end .ensures))
 
 returns-2 : tie.Need-returns-2
 returns-2 c =
-    let g = good (c .before .before .before .before .before .before .before .before .before) in
+    let g = good (tested (c .before .before)) in
     let rows = c .before .before .occurrences-by-row .ensures in
     let ends = c .before .before .before .before .occurrences-by-end .ensures in
     occurrences-answered _ g (c .pack-wide .ensures ∙ ap₂ (λ (x y : ℕ). packed (answered (wideAnswer x y))) rows ends)
@@ -44,7 +49,7 @@ occurrences-spec =
     (λ c κs. search needs)
     returns
     (λ c. search needs)
-    (λ c κs. let g = good (c .before) in (g, ends-fit _ g))
+    (λ c κs. let g = good (c .before) in (g, size-most g))
     (λ c. search needs)
     (λ c κs. (good (c .before .before .before .before), c .before .before .rows-at-ends .ensures))
     (λ c. search needs)

@@ -12,7 +12,8 @@ use Rattle.transitions.proofs.Rows.{used-small}
 use Rattle.walk.specs.Replay.{Holds}
 use Rattle.walk.proofs.Stores.{header-fits}
 use Rattle.suffix_palindromes.specs.Handed.{chainLength, Handed}
-use Rattle.suffix_palindromes.proofs.Handed.{chain-none, handed-first, chain-small, by-end-first, by-end-next, by-end-small, read-whole}
+use Rattle.walk.proofs.Reading.{read-whole}
+use Rattle.suffix_palindromes.proofs.Handed.{chain-none, handed-first, chain-small, by-end-first, by-end-next, by-end-small}
 use Rattle.suffix_palindromes.proofs.add_chains.Statement.{statement}
 use Rattle.suffix_palindromes.proofs.add_chains.Tie as tie
 

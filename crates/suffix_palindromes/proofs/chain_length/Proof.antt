@@ -5,8 +5,7 @@ use mathlib.Core.Path.{refl, ap}
 use lib.ListN.{getD}
 use borrow.Author.Needs.{needs}
 use Rattle.store.specs.Good.{ruleOf}
-use Rattle.transitions.proofs.Rows.{used-fits}
-use Rattle.end_rows.proofs.Numbers.{row-below, link-below}
+use Rattle.transitions.proofs.Rows.{used-fits, row-below, link-below}
 use Rattle.suffix_palindromes.proofs.Handed.{chain-none, hands-root, chains-word}
 use Rattle.suffix_palindromes.proofs.chain_length.Statement.{statement}
 use Rattle.suffix_palindromes.proofs.chain_length.Tie as tie

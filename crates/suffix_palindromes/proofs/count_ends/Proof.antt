@@ -10,9 +10,10 @@ use Rattle.palindromes.specs.Node.{spellingOf}
 use Rattle.store.specs.Layout.{sizeIn, lettersIn}
 use Rattle.store.specs.Good.{nodeIn}
 use Rattle.walk.specs.Replay.{Holds}
-use Rattle.walk.proofs.Reading.{holds-first}
+use Rattle.transitions.proofs.Rows.{size-most}
+use Rattle.walk.proofs.Reading.{holds-first, read-whole}
 use Rattle.suffix_palindromes.specs.Handed.{endingWith, Handed}
-use Rattle.suffix_palindromes.proofs.Handed.{ends-none, handed-first, frequency-first, frequency-next, frequency-small, read-whole}
+use Rattle.suffix_palindromes.proofs.Handed.{ends-none, handed-first, frequency-first, frequency-next, frequency-small}
 use Rattle.suffix_palindromes.proofs.count_ends.Statement.{statement}
 use Rattle.suffix_palindromes.proofs.count_ends.Tie as tie
 
@@ -83,7 +84,7 @@ add-total c =
     let t = from-next (from-mark marked) in
     let p = from-loop t .pre in
     let small = frequency-small (p .0) (p .1 .0 .0) (p .1 .0 .1) (t .loop .k + 1) in
-    omega (arith, next-total marked, small, more (from-mark marked), p .0 .sized .letters-fit, p .0 .sized .at-most)
+    omega (arith, next-total marked, small, more (from-mark marked), size-most (p .0))
 
 loop-again : tie.Need-loop-again Inv-loop μ-loop
 loop-again c =

@@ -4,8 +4,7 @@ use mathlib.Core.Logic.{⊎-elim}
 use borrow.Author.Needs.{needs}
 use Rattle.palindromes.specs.Node.{spellingOf}
 use Rattle.store.specs.Good.{nodeIn}
-use Rattle.transitions.proofs.Rows.{used-fits}
-use Rattle.end_rows.proofs.Numbers.{row-below, link-below}
+use Rattle.transitions.proofs.Rows.{used-fits, row-below, link-below}
 use Rattle.suffix_palindromes.proofs.Handed.{ends-none, hands-root, marks-wanted, marks-other}
 use Rattle.suffix_palindromes.proofs.mark.Statement.{statement}
 use Rattle.suffix_palindromes.proofs.mark.Tie as tie
@@ -18,8 +17,8 @@ returns c =
 link-of-requires : tie.Need-link-of-requires
 link-of-requires c κs = let s = c .before .before .before .before in used-fits (s .pre .0) (s .args .row) (s .pre .1 .1 .0)
 
-slice-read-ends : tie.Need-slice-read-ends
-slice-read-ends c =
+slice-read-marked : tie.Need-slice-read-marked
+slice-read-marked c =
     let read = c .before in
     let s = read .before .before .before .before .before in
     omega (arith, link-below (s .pre .0) (s .args .row) (s .pre .1 .1 .0) (read .link-of .ensures .0), s .pre .1 .1 .1)
@@ -39,4 +38,4 @@ returns-2 c =
     (c .before .if2 .came)
 
 pub mark-spec : {M : Type 1} → statement M
-mark-spec = tie.close (tie.spec returns link-of-requires slice-read-ends slice-write-marks (λ c κs. search needs) (λ c. search needs) returns-2)
+mark-spec = tie.close (tie.spec returns link-of-requires slice-read-marked slice-write-marks (λ c κs. search needs) (λ c. search needs) returns-2)

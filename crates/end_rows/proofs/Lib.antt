@@ -1,2 +1,0 @@
--- an array with a number for each row
-pub mod Numbers
