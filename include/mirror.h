@@ -28,6 +28,8 @@ extern "C" {
  * enough for it. */
 #define MIRROR_LIST_SCRATCH(letters) (((size_t)(letters) + 7) / 8)
 #define MIRROR_LIST_SIZE(letters) (45 * (size_t)(letters))
+/* The bytes that a GenBank page of so many letters has, 1,317 at most. */
+#define MIRROR_GENBANK_SIZE(letters) (10 + (size_t)(letters) + ((size_t)(letters) + 9) / 10 + 10 * (((size_t)(letters) + 59) / 60))
 
 enum {
     MIRROR_CAPACITY = 1,    /* opening: capacity outside 1 to 1,024 */
@@ -89,6 +91,10 @@ uint64_t mirror_find(const uint8_t *store, size_t length, const uint8_t *piece, 
  * are zeros afterwards. Bytes beyond them stay, and so does output beyond the list. */
 uint64_t mirror_list(const uint8_t *store, size_t length, const uint8_t *identifier, size_t identifier_length,
                      uint8_t *scratch, size_t scratch_length, uint8_t *out, size_t out_length);
+/* The record printed as in the GenBank flat file, from the line ORIGIN to the line //, and how many bytes that has as the first
+ * number: sixty letters a line in lower case, behind the place of the line's first letter counted from 1. The page is the same
+ * in either reading. It takes MIRROR_GENBANK_SIZE bytes for the letters now in the record; output beyond the page stays. */
+uint64_t mirror_genbank(const uint8_t *store, size_t length, uint8_t *out, size_t out_length);
 /* Reads a FASTA text of any length; needs no store. The identifier stands behind the first `>`, and its length is the
  * first number; the letters go to the front of `out`, and how many is the second. 1,024 bytes are always room enough. In
  * the lines after the first a, c, g and t are read, and written, as A, C, G and T; additions and find take capitals only. */

@@ -5,13 +5,13 @@ use native.Mathlib.Numerals.{add-one}
 use mathlib.Core.Path.{_≡_, refl, sym, ap, ap₂, _∙_}
 use mathlib.Core.Bool.{true}
 use mathlib.Core.List.{List, [], _∷_}
-use lib.ListN.{length, take, drop, getD, length-append, take-append-drop}
+use lib.ListN.{length, take, getD, length-append}
 use lib.Seq.{take-suc, take-length, take-at, length-take-le, getD-append-seam}
 use Rattle.palindromes.specs.Word.{Word, isLetter, allLetters}
 use Rattle.palindromes.specs.Reading.{asPlain, readingNumber, ruleIn}
 use Rattle.palindromes.specs.End.{End}
 use Rattle.palindromes.specs.Refusal.{storeSize}
-use Rattle.palindromes.proofs.Letters.{letter-of, letter-byte}
+use Rattle.palindromes.proofs.Letters.{letter-of, letter-byte, letters-parts}
 use Rattle.palindromes.proofs.Readings.{number-below}
 use Rattle.partners.specs.Table.{PartnersIn}
 use Rattle.store.specs.Layout.{capacityIn, sizeIn, readingIn}
@@ -19,14 +19,9 @@ use Rattle.store.specs.Good.{ruleOf, Good}
 use Rattle.transitions.specs.Opening.{opened}
 use Rattle.transitions.specs.Addition.{afterAddition}
 use Rattle.transitions.specs.Turning.{afterAdditions}
-use Rattle.transitions.proofs.Letters.{letters-piece}
 use Rattle.outcome.specs.declared.answers.Added.{Added}
 use Rattle.filling.specs.Last.{brought, LastBrings}
 use Rattle.transitions.proofs.Turned.{Filled, additions, additions-more, can-take}
-
--- the first letters of a word of letters are letters
-letters-take : (i : ℕ) (w : Word) → allLetters w ≡ true → allLetters (take i w) ≡ true
-letters-take i w h = letters-piece (record { before = []; after = drop i w; whole = take-append-drop i w }) h
 
 module _ (e : End) (b w : Word) (g : Good b) (all : allLetters w ≡ true) (room : sizeIn b + length w ≤ capacityIn b) where
   module _ (i : ℕ) (h : i ≤ length w) where
@@ -35,7 +30,7 @@ module _ (e : End) (b w : Word) (g : Good b) (all : allLetters w ≡ true) (room
     partly = afterAdditions e (take i w) b
 
     pub first-ones : Filled e (take i w) b
-    first-ones = additions e (take i w) g (letters-take i w all) (omega (arith, length-take-le i w h))
+    first-ones = additions e (take i w) g (letters-parts i w all .0) (omega (arith, length-take-le i w h))
 
     -- the next letter is one, and has room
     pub next-letter : i < length w → isLetter (getD w i 0) ≡ true

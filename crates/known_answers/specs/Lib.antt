@@ -3,3 +3,4 @@ pub mod Starred
 pub mod Inverted
 pub mod Searches
 pub mod Mismatches
+pub mod Pages

@@ -16,7 +16,7 @@ use Rattle.palindromes.specs.Record.{palindromes, count, least, longestPlace}
 use Rattle.palindromes.specs.Occurrences.{occurrencesByRow, occurrencesByEnd}
 use Rattle.palindromes.specs.End.{End, atLeft, atRight, letterAt}
 use Rattle.palindromes.specs.Node.{Node, imaginary, spelt, lengthOf, spellingOf}
-use Rattle.palindromes.specs.Refusal.{Question, theLength, theCount, theLongest, theLongestLength, theOccurrences, theLongestAt, theLetter, theRow, theFrequency, spell, find, list, Call, opening, add, remove, turn, ask, refusal}
+use Rattle.palindromes.specs.Refusal.{Question, theLength, theCount, theLongest, theLongestLength, theOccurrences, page, theLongestAt, theLetter, theRow, theFrequency, spell, find, list, Call, opening, add, remove, turn, ask, refusal}
 use Rattle.palindromes.proofs.Tests.{both-true}
 use Rattle.palindromes.proofs.Order.{longest-length-fits, longest-place-is}
 use Rattle.palindromes.proofs.Palindromes.{count-length}
@@ -27,6 +27,7 @@ use Rattle.palindromes.specs.SearchSteps.{searchSteps, reportedSteps}
 use Rattle.palindromes.proofs.SearchSteps.{steps-few}
 use Rattle.palindromes.proofs.Mismatch.{mismatch-small}
 use Rattle.bed.proofs.Listing.{listing-most}
+use Rattle.genbank.proofs.Size.{page-most}
 use Rattle.eertree.proofs.Rows.{reachOf, row-reach-most, word-row}
 use Rattle.store.specs.Layout.{readingIn, usedIn, lettersIn}
 use Rattle.store.specs.Good.{ruleOf, nodeIn, Good}
@@ -123,6 +124,7 @@ module _ {b : Word} (g : Good b) where
       fits _ (omega arith) (omega (arith, longest-length-fits (ruleOf b) (lettersIn b), few)) (omega (arith, longest-place-fits (ruleOf b) (lettersIn b), few))
   answer-fits theLongestLength l z = fits _ (omega arith) (omega (arith, longest-length-fits (ruleOf b) (lettersIn b), few)) (omega arith)
   answer-fits theOccurrences l z = let n = few-occurrences in wide-fits _ _ (n .0) (n .1)
+  answer-fits page l z = fits _ (omega arith) (omega (arith, page-most (lettersIn b) few)) (omega arith)
   answer-fits (theLongestAt e) l z = fits _ (row-of-small g _) (omega arith) (omega arith)
   answer-fits (theLetter i) l z = fits _ (omega arith) (letter-small (lettersIn b) i (g .letters)) (omega arith)
   answer-fits (theRow r) l z = fits _ (row-of-small g _) (length-small r (row-used b l r z)) (row-of-small g _)

@@ -1,12 +1,12 @@
 -- The four letters, case by case; each letter of a word of letters is one, and two words joined are of letters exactly if both are. Rests on the tests of proofs/Lists.antt only. Assumes nothing.
 use Prim.Native.Nat.{ℕ, zero, suc, _<_}
 use native.Mathlib.Omega.{arith}
-use mathlib.Core.Path.{_≡_, refl, sym, subst}
+use mathlib.Core.Path.{_≡_, refl, sym, ap, subst, _∙_}
 use mathlib.Core.Bool.{true, _&&_, _||_, and-assoc}
 use mathlib.Core.Logic.{⊎-elim}
 use mathlib.Core.List.{[], _∷_, _++_}
 use lib.Dec.{eqb}
-use lib.ListN.{length, getD}
+use lib.ListN.{length, getD, take, drop, take-append-drop}
 use borrow.Author.Tests.{eqb-true}
 use Rattle.palindromes.specs.Word.{Word, isLetter, allLetters}
 use Rattle.palindromes.proofs.Tests.{both-true}
@@ -47,3 +47,7 @@ pub letters-append : (u v : Word) → allLetters (u ++ v) ≡ (allLetters u && a
 unfolding allLetters
 letters-append [] v = refl
 letters-append (x ∷ u) v = cc (letters-append u v, and-assoc (isLetter x) (allLetters u) (allLetters v))
+
+-- so a word of letters is cut into two
+pub letters-parts : (i : ℕ) (w : Word) → allLetters w ≡ true → (allLetters (take i w) ≡ true) × (allLetters (drop i w) ≡ true)
+letters-parts i w h = both-true (allLetters (take i w)) (allLetters (drop i w)) (sym (letters-append (take i w) (drop i w)) ∙ ap allLetters (take-append-drop i w) ∙ h)

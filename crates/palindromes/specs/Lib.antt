@@ -10,5 +10,6 @@ pub mod Node
 pub mod SearchSteps
 pub mod Eertree
 pub mod Bed
+pub mod Genbank
 pub mod Fasta
 pub mod Refusal

@@ -9,9 +9,11 @@ pub mod Undone
 pub mod Theorem
 pub mod Appending
 pub mod Frequencies
+pub mod Pages
 pub mod Possible
 pub mod Example
 pub mod ExampleInverted
 pub mod ExampleTurned
 pub mod ExampleAppending
 pub mod ExampleFrequencies
+pub mod ExamplePages

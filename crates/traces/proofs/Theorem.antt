@@ -68,7 +68,7 @@ question-store (suc n) q b l = refl
 -- ---- the same question on two good stores
 
 -- a question whose outcomes have the same reply and leave the same buffers
-same-answer : (q : Question) {b c : Word} → Good b → Good c → ((l : Lent) → outcome (ask q) b l .reply ≡ outcome (ask q) c l .reply) → ((l : Lent) → outcome (ask q) b l .lent ≡ outcome (ask q) c l .lent)
+pub same-answer : (q : Question) {b c : Word} → Good b → Good c → ((l : Lent) → outcome (ask q) b l .reply ≡ outcome (ask q) c l .reply) → ((l : Lent) → outcome (ask q) b l .lent ≡ outcome (ask q) c l .lent)
     → SameAnswer q b c
 same-answer q g h f e l a a′ b′ c′ l′ l″ p p′ =
     let t = told g p in

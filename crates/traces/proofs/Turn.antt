@@ -23,7 +23,7 @@ use Rattle.transitions.specs.Rows.{rowOf}
 use Rattle.transitions.specs.Turning.{turned}
 use Rattle.transitions.proofs.Letters.{letters-piece}
 use Rattle.transitions.proofs.Turned.{Made, turned-same, turning}
-use Rattle.outcome.specs.Reply.{Reply, packed, accepted, unpacked}
+use Rattle.outcome.specs.Reply.{Reply, accepted, unpacked}
 use Rattle.outcome.specs.Outcome.{Lent, Outcome, outcome, acceptedOutcome, changed}
 use Rattle.outcome.specs.Promise.{nothing}
 use Rattle.outcome.proofs.Refusals.{turn-accepted, carried-out}

@@ -1,0 +1,2 @@
+-- what printing a record promises, on plain values
+pub mod Printing
