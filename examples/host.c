@@ -1,5 +1,5 @@
 /* A sitting in C: two teams build ACGAAG from both ends, ask for its mirror repeats, and take a letter away again. Then a
- * record is read from a FASTA text. */
+ * record is read from a FASTA text and printed as in GenBank. */
 #include "mirror.h"
 #include <stdio.h>
 #include <string.h>
@@ -14,7 +14,7 @@ static uint64_t must(uint64_t answer)
     return answer;
 }
 
-/* Opens the record afresh, adds the letters of a FASTA text at the right and prints its list. */
+/* Opens the record afresh, adds the letters of a FASTA text at the right and prints its list and its letters. */
 static void read_fasta(const char *fasta)
 {
     uint8_t letters[MOST];
@@ -23,6 +23,8 @@ static void read_fasta(const char *fasta)
     must(mirror_open(store, sizeof store, MOST));
     for (size_t i = 0; i < mirror_second(answer); i++) must(mirror_add_right(store, sizeof store, letters[i]));
     unsigned n = mirror_first(must(mirror_list(store, sizeof store, (const uint8_t *)fasta + 1, mirror_first(answer), scratch, sizeof scratch, text, sizeof text)));
+    fwrite(text, 1, n, stdout);
+    n = mirror_first(must(mirror_genbank(store, sizeof store, text, sizeof text)));
     fwrite(text, 1, n, stdout);
 }
 

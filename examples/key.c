@@ -17,7 +17,7 @@
 enum { MOST = 1024, WORDS = 4 };
 
 static uint8_t store[MIRROR_STORE_SIZE(MOST)];
-static uint8_t text[MIRROR_LIST_SIZE(MOST)]; /* what the last spelling or listing wrote */
+static uint8_t text[MIRROR_LIST_SIZE(MOST)]; /* what the last spelling, listing or printing wrote */
 static unsigned written;
 
 /* One line of the file. */
@@ -31,7 +31,7 @@ struct line {
 /* What a call takes, how it is made, and its accepted answer in words. */
 struct form {
     const char *name;
-    enum { NOTHING, NUMBER, END, MAYBE_END, LETTER_AND_END, READING, MAYBE_TEXT } takes;
+    enum { NOTHING, NUMBER, MAYBE_NUMBER, END, MAYBE_END, LETTER_AND_END, READING, MAYBE_TEXT } takes;
     const char *usage;
     uint64_t (*make)(const struct line *);
     void (*say)(const struct line *, uint64_t answer);
@@ -192,6 +192,26 @@ static void say_list(const struct line *l, uint64_t answer)
     }
 }
 
+/* The page is lent just the bytes that it has or, so that a refusal can be shown, as many as the line says. */
+static uint64_t make_genbank(const struct line *l)
+{
+    size_t room = MIRROR_GENBANK_SIZE(mirror_first(mirror_length(store, sizeof store)));
+    if (*l->words[1]) room = l->number < sizeof text ? (size_t)l->number : sizeof text;
+    uint64_t answer = mirror_genbank(store, sizeof store, text, room);
+    written = mirror_first(answer);
+    return answer;
+}
+
+/* Every byte of the page; an LF, which no cell of a table can hold, as the mark for a new line there. */
+static void say_genbank(const struct line *l, uint64_t answer)
+{
+    (void)l, (void)answer;
+    for (unsigned i = 0; i < written; i++) {
+        if (text[i] == '\n') printf("<br>");
+        else putchar(text[i]);
+    }
+}
+
 static const struct form forms[] = {
     {"open", NUMBER, "open CAPACITY", make_open, say_done},
     {"open-inverted", NUMBER, "open-inverted CAPACITY", make_open_inverted, say_done},
@@ -209,6 +229,7 @@ static const struct form forms[] = {
     {"spell", NUMBER, "spell ROW", make_spell, say_spell},
     {"find", MAYBE_TEXT, "find PIECE", make_find, say_find},
     {"list", MAYBE_TEXT, "list IDENTIFIER", make_list, say_list},
+    {"genbank", MAYBE_NUMBER, "genbank, genbank BYTES", make_genbank, say_genbank},
     {"rows", NOTHING, "rows", NULL, NULL},
 };
 
@@ -276,6 +297,7 @@ static int fits(struct line *l, size_t words)
     switch (l->form->takes) {
     case NOTHING: return words == 1;
     case NUMBER: return words == 2;
+    case MAYBE_NUMBER: return words <= 2;
     case END: return words == 2 && end(l, words);
     case MAYBE_END: return words == 1 || (words == 2 && end(l, words));
     case LETTER_AND_END: return words == 3 && strlen(l->words[1]) == 1 && end(l, words);
@@ -301,7 +323,7 @@ static void read_call(struct line *l, size_t words, size_t at)
         if (strcmp(l->words[0], forms[i].name) == 0) l->form = &forms[i];
     if (!l->form) stop(", line %zu: '%.40s' is no call", at, l->words[0]);
     if (!fits(l, words)) stop(", line %zu: no call like this: %s", at, l->form->usage);
-    if (l->form->takes == NUMBER) number(l, at);
+    if (l->form->takes == NUMBER || (l->form->takes == MAYBE_NUMBER && words == 2)) number(l, at);
 }
 
 /* Puts a zero byte in place of the line's LF or CR LF; where the next line begins. */

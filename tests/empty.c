@@ -38,6 +38,7 @@ static void no_store(uint8_t *p)
     must("spell", mirror_spell(p, 0, 1, p, 0), MIRROR_DAMAGED);
     must("find", mirror_find(p, 0, p, 0), MIRROR_DAMAGED);
     must("list", mirror_list(p, 0, p, 0, p, 0, p, 0), MIRROR_DAMAGED);
+    must("genbank", mirror_genbank(p, 0, p, 0), MIRROR_DAMAGED);
 }
 
 /* every other buffer empty at p, with an empty record and with one of a letter */
@@ -48,7 +49,9 @@ static void no_buffer(uint8_t *p)
     must("find nothing", mirror_find(store, sizeof store, p, 0), MIRROR_NO_PIECE);
     must("no identifier", mirror_list(store, sizeof store, p, 0, p, 0, p, 0), MIRROR_IDENTIFIER);
     must("an empty list", mirror_list(store, sizeof store, (const uint8_t *)"e1", 2, p, 0, p, 0), 0);
+    must("print an empty record", mirror_genbank(store, sizeof store, p, 0), MIRROR_NO_ROOM);
     mirror_add_right(store, sizeof store, 'A');
+    must("print a letter", mirror_genbank(store, sizeof store, p, 0), MIRROR_NO_ROOM);
     must("spell a letter", mirror_spell(store, sizeof store, 2, p, 0), MIRROR_NO_ROOM);
     must("list a letter", mirror_list(store, sizeof store, (const uint8_t *)"e1", 2, p, 0, p, 0), MIRROR_NO_ROOM);
 }

@@ -3,7 +3,8 @@
  * A key is compared as it stands in the table, and no other program is asked. Beside the table: small letters are refused,
  * the keys of inverted records that 02 (vi) and source 004 have, records that are turned, 02 (vii), how many repeats of each
  * length a store carries, 02 (ii), what additions report of their search, 02 (xiii), where a piece breaks, 02 (x), how much
- * scratch the list takes, 02 (ix), and how often repeats stand, 02 (iii). Keys that ask for no repeat are run with either opening. */
+ * scratch the list takes, 02 (ix), how often repeats stand, 02 (iii), and the record printed as in GenBank, 02 (iv), each page written
+ * out here byte by byte. Keys that ask for no repeat are run with either opening. */
 #include "mirror.h"
 #include <stdio.h>
 #include <stdlib.h>
@@ -83,6 +84,19 @@ static void goes(int left, char letter, const char *repeat)
     if (repeat) breaks(repeat, 0);
 }
 
+/* the page, as it stands in the key: into just its bytes and into more, and a byte fewer is refused */
+static void printed(const char *page)
+{
+    uint8_t out[128];
+    size_t n = strlen(page);
+    for (size_t room = n - 1; room <= n + 8; room++) {
+        memset(out, '?', sizeof out);
+        key("the page's length", room < n ? 9 : (uint64_t)n << 32, mirror_genbank(store, length, out, room));
+        key("the page", 0, room >= n && memcmp(out, page, n) != 0);
+        for (size_t i = room < n ? 0 : n; i < n + 9; i++) key("a byte that is not of the page", '?', out[i]);
+    }
+}
+
 /* ---- without a star */
 
 static void empty_at_every_capacity(opening *open)
@@ -94,6 +108,7 @@ static void empty_at_every_capacity(opening *open)
         key("longest length", 0, mirror_longest_length(store, length));
         key("occurrences", 0, mirror_occurrences(store, length));
         key("frequency of row 2", 7, mirror_frequency(store, length, 2));
+        printed("ORIGIN\n//\n");
     }
 }
 
@@ -722,6 +737,98 @@ static void places_of_pairs(void)
     places(262656);
 }
 
+/* ---- printed as in GenBank, 02 (iv) */
+
+/* the first n of these letters as a record, and its page; the page is the same in either reading */
+static void page_of(opening *open, size_t n, int from_left, const char *page)
+{
+    static const char all[] = "GATTACACCATGGACTTGCATCCGGTAACTAGGCTTATTCGAACCGTAAGCTTGGCACTGACCATG";
+    char letters[sizeof all] = "";
+    memcpy(letters, all, n);
+    record(open, letters, 66, from_left);
+    printed(page);
+    for (size_t i = 0; i < sizeof turns / sizeof turns[0]; i++) {
+        key("turn", 0, turns[i](store, length));
+        printed(page);
+    }
+}
+
+/* no letter, one group, two, a full line of six, and a second line */
+static void pages(opening *open, int from_left)
+{
+    page_of(open, 0, from_left, "ORIGIN\n//\n");
+    page_of(open, 1, from_left, "ORIGIN\n        1 g\n//\n");
+    page_of(open, 9, from_left, "ORIGIN\n        1 gattacacc\n//\n");
+    page_of(open, 10, from_left, "ORIGIN\n        1 gattacacca\n//\n");
+    page_of(open, 11, from_left, "ORIGIN\n        1 gattacacca t\n//\n");
+    page_of(open, 21, from_left, "ORIGIN\n        1 gattacacca tggacttgca t\n//\n");
+    page_of(open, 59, from_left, "ORIGIN\n        1 gattacacca tggacttgca tccggtaact aggcttattc gaaccgtaag cttggcact\n//\n");
+    page_of(open, 60, from_left, "ORIGIN\n        1 gattacacca tggacttgca tccggtaact aggcttattc gaaccgtaag cttggcactg\n//\n");
+    page_of(open, 61, from_left, "ORIGIN\n        1 gattacacca tggacttgca tccggtaact aggcttattc gaaccgtaag cttggcactg\n       61 a\n//\n");
+    page_of(open, 66, from_left, "ORIGIN\n        1 gattacacca tggacttgca tccggtaact aggcttattc gaaccgtaag cttggcactg\n       61 accatg\n//\n");
+}
+
+/* letters come and go at either end, so that every place moves */
+static void pages_of_changes(opening *open)
+{
+    record(open, "ACCATTGACA", 12, 0);
+    printed("ORIGIN\n        1 accattgaca\n//\n");
+    key("add G left", 0, mirror_refusal(mirror_add_left(store, length, 'G')));
+    printed("ORIGIN\n        1 gaccattgac a\n//\n");
+    key("add T right", 0, mirror_refusal(mirror_add_right(store, length, 'T')));
+    printed("ORIGIN\n        1 gaccattgac at\n//\n");
+    key("the record is full", 5, mirror_add_left(store, length, 'C'));
+    printed("ORIGIN\n        1 gaccattgac at\n//\n");
+    for (int i = 0; i < 2; i++) key("remove left", 0, mirror_refusal(mirror_remove_left(store, length)));
+    printed("ORIGIN\n        1 ccattgacat\n//\n");
+    for (int i = 0; i < 9; i++) key("remove right", 0, mirror_refusal(mirror_remove_right(store, length)));
+    printed("ORIGIN\n        1 c\n//\n");
+    key("remove the last", 0, mirror_refusal(mirror_remove_left(store, length)));
+    printed("ORIGIN\n//\n");
+}
+
+/* what the header says, worked out by hand: ten bytes, the letters, a blank for each ten and ten bytes for each sixty */
+static void lengths_of_pages(void)
+{
+    static const struct { size_t letters, bytes; } pages[] = {
+        {0, 10}, {1, 22}, {9, 30}, {10, 31}, {11, 33}, {59, 85}, {60, 86}, {61, 98}, {119, 161}, {120, 162}, {121, 174},
+        {600, 770}, {960, 1226}, {999, 1279}, {1000, 1280}, {1001, 1282}, {1020, 1302}, {1021, 1314}, {1024, 1317}};
+    for (size_t i = 0; i < sizeof pages / sizeof pages[0]; i++) key("the bytes of a page", pages[i].bytes, MIRROR_GENBANK_SIZE(pages[i].letters));
+}
+
+/* the longest page: 1,024 times A; its last line holds four letters, the line before those from 961 on */
+static void longest_page(opening *open)
+{
+    static const char last[] = "\n      961 aaaaaaaaaa aaaaaaaaaa aaaaaaaaaa aaaaaaaaaa aaaaaaaaaa aaaaaaaaaa\n     1021 aaaa\n//\n";
+    char letters[1025] = "";
+    uint8_t out[1318];
+    memset(letters, 'A', 1024);
+    memset(out, '?', sizeof out);
+    record(open, letters, 1024, 0);
+    sitting = "1,024 A";
+    key("a byte too few", 9, mirror_genbank(store, length, out, 1316));
+    key("its first byte", '?', out[0]);
+    key("its length", 1317ull << 32, mirror_genbank(store, length, out, 1317));
+    key("its last lines", 0, memcmp(out + 1317 - strlen(last), last, strlen(last)) != 0);
+    key("the byte behind it", '?', out[1317]);
+}
+
+/* a store that is not good is refused before the room is looked at, and no byte is written */
+static void pages_of_damaged_stores(opening *open)
+{
+    uint8_t out[64];
+    record(open, "GATTACA", 8, 0);
+    store[24 * 10 + 3] = 'a'; /* the fourth letter, by docs/LAYOUT.md */
+    memset(out, '?', sizeof out);
+    memcpy(before, store, sizeof store);
+    for (size_t room = 0; room <= sizeof out; room++) key("page of what is not good", 3, mirror_genbank(store, length, out, room));
+    key("the store stays", 0, memcmp(before, store, sizeof store) != 0);
+    store[24 * 10 + 3] = 'T';
+    key("page of a store too short", 3, mirror_genbank(store, length - 1, out, 0));
+    for (size_t i = 0; i < sizeof out; i++) key("every byte stays", '?', out[i]);
+    key("it is good again", 28ull << 32, mirror_genbank(store, length, out, sizeof out));
+}
+
 /* the keys that ask for no repeat */
 static void either_reading(opening *open)
 {
@@ -734,6 +841,10 @@ static void either_reading(opening *open)
     capitals_only(open);
     record(open, "A", 1, 0);
     key("add C right", 5, mirror_add_right(store, length, 'C'));
+    for (int from_left = 0; from_left < 2; from_left++) pages(open, from_left);
+    pages_of_changes(open);
+    longest_page(open);
+    pages_of_damaged_stores(open);
 }
 
 int main(void)
@@ -779,6 +890,7 @@ int main(void)
     for (int from_left = 0; from_left < 2; from_left++) most_places(from_left);
     places_of_rows_taken_again(2);
     places_of_pairs();
+    lengths_of_pages();
     longest_of_all();
     longest_search();
     breaks_in_the_middle();

@@ -3,6 +3,7 @@
 #include "layout.h"
 #include "mirror.h"
 #include "oracle.h"
+#include "second_page.h"
 #include <stdio.h>
 #include <stdlib.h>
 #include <string.h>
@@ -253,6 +254,22 @@ static void ask_list(void)
     listed(text, size, guarded(PIECE_SLOT, (unsigned char *)name, name_length), name_length);
 }
 
+/* the page into a byte too few, into just its bytes, and with some to spare */
+static void ask_page(void)
+{
+    static char page[SECOND_PAGE_ROOM];
+    size_t n = second_page(letters, length, page);
+    for (size_t room = n - 1; room <= n + 2; room++) {
+        uint8_t *out = guard_room(OUT_SLOT, room);
+        size_t written = room < n ? 0 : n;
+        memset(out, 5, room);
+        same("page", room < n ? 9 : packed(0, 0, n, 0), mirror_genbank(store, store_length, out, room));
+        model_facts++;
+        if (memcmp(out, page, written) != 0) fail("printed bytes", 0, 1);
+        for (size_t i = written; i < room; i++) same("page: bytes beyond, or after a refusal", 5, out[i]);
+    }
+}
+
 /* the longest at an end: its row, whether it stands once only, and how often; where there is none row 1, which has no places */
 static void ask_end(const char *what, const unsigned char *w, size_t n, uint64_t answer)
 {
@@ -321,6 +338,7 @@ void model_ask(void)
     ask_other_rows();
     ask_pieces();
     ask_list();
+    ask_page();
     unchanged("a question changed the store");
 }
 

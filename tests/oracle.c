@@ -2,6 +2,7 @@
 #include "guard.h"
 #include "judge.h"
 #include "mirror.h"
+#include "second_page.h"
 #include <stdio.h>
 #include <stdlib.h>
 #include <string.h>
@@ -138,6 +139,13 @@ static uint64_t list_answer(const call *c)
     return packed(0, 0, size, 0);
 }
 
+/* the page takes just the bytes that it has, and nothing else is asked of the buffer */
+static uint64_t page_answer(const call *c)
+{
+    size_t size = second_page(was.letters, was.size, wanted_out);
+    return c->out_length < size ? 9 : packed(0, 0, size, 0);
+}
+
 static uint64_t wanted_answer(const call *c)
 {
     if (verdict) return 3;
@@ -154,6 +162,7 @@ static uint64_t wanted_answer(const call *c)
     case OCCURRENCES: return occurrences_answer();
     case FIND: return find_answer(c);
     case LIST: return list_answer(c);
+    case GENBANK: return page_answer(c);
     default: return change_answer(c);
     }
 }
@@ -162,7 +171,8 @@ static uint64_t wanted_answer(const call *c)
 static void check_buffers(const call *c, size_t length, uint64_t answer)
 {
     int done = (answer & 0xff) == 0;
-    size_t written = done && (c->kind == LIST || c->kind == SPELL) ? (answer >> 32 & 0xffff) : 0;
+    int writes = c->kind == LIST || c->kind == SPELL || c->kind == GENBANK;
+    size_t written = done && writes ? (answer >> 32 & 0xffff) : 0;
     size_t cleared = done && c->kind == LIST ? layout_scratch(was.size) : 0;
     if (c->text_length && memcmp(lent.text, c->text, c->text_length) != 0) fail(c, "the piece or identifier changed", 0, 1, length);
     for (size_t i = 0; i < c->out_length; i++) {

@@ -4,10 +4,12 @@
  * alone. Some are opened inverted; others plain, where no site of the first kind is found, and are turned to the inverted
  * reading then. An absent site is told with the pair at which it breaks, in the record's reading; a site that is found has as many
  * places as it stands at. The longest length is that of the longest stretch that reads alike, and all places are as many as there
- * are such stretches. Whether letters read alike is tried here in a few lines, and no other test's program is asked. A wrong
- * answer is told on standard error, and the program ends with 1. */
+ * are such stretches. The page of a record has its letters, in small ones, as a program would read them that passes over all else.
+ * Whether letters read alike is tried here in a few lines, and no other test's program is asked. A wrong answer is told on standard
+ * error, and the program ends with 1. */
 #include "mirror.h"
 #include "random.h"
+#include <ctype.h>
 #include <stdio.h>
 #include <stdlib.h>
 #include <string.h>
@@ -89,11 +91,25 @@ static int reads_alike(const char *w, size_t n)
     return n > 0 && breaks(w, n, 1) == 0;
 }
 
+/* what a reader of GenBank files gets who takes all letters between the lines ORIGIN and // and minds neither places nor blanks */
+static void prints_the_letters(void)
+{
+    uint8_t page[MIRROR_GENBANK_SIZE(MOST)], *end;
+    size_t n = strlen(letters), bytes = MIRROR_GENBANK_SIZE(n), at = 0;
+    key("bytes printed", (uint64_t)bytes << 32, mirror_genbank(store, length, page, bytes));
+    key("line ORIGIN", 0, memcmp(page, "ORIGIN\n", 7) != 0);
+    key("line //", 0, memcmp(end = page + bytes - 3, "//\n", 3) != 0);
+    for (uint8_t *c = page + 7; c < end; c++)
+        if (isalpha(*c)) key("letter printed", at < n ? (uint64_t)tolower(letters[at++]) : 0, *c);
+    key("letters printed", n, at);
+}
+
 static void holds_the_letters(void)
 {
     size_t n = strlen(letters);
     key("length", (uint64_t)n << 32, mirror_length(store, length));
     for (size_t i = 0; i < n; i++) key("letter", (uint64_t)letters[i] << 32, mirror_letter(store, length, i));
+    prints_the_letters();
 }
 
 /* the length of the longest stretch that reads alike */
@@ -205,6 +221,7 @@ static void take_apart(size_t before, size_t after)
     }
     letters[n] = 0;
     memmove(letters, letters + first, n - first + 1);
+    prints_the_letters();
 }
 
 /* one site between letters drawn by chance, put together at the right or around its middle, in an inverted record or in a plain

@@ -2,9 +2,11 @@
  * after each call follow from the calls that the key says were accepted, and so do the rows: a new repeat takes the row that
  * was freed last or, where none is left of those, the lowest that was never taken; an opening and a turn to the other reading
  * begin anew, and after a turn the repeats take their rows in the order in which they first end. So every accepted call has one
- * right answer, and every table of rows one right content. A dozen sittings, each with a title of its own (##), are the least.
- * It makes no call: that the library answers what the keys say is what tests/key looks at. Usage: samples KEY.. */
+ * right answer, and every table of rows one right content; the page of a record is that of a second writer. A dozen sittings, each
+ * with a title of its own (##), are the least. It makes no call: that the library answers what the keys say is what tests/key looks
+ * at. Usage: samples KEY.. */
 #include "brute.h"
+#include "second_page.h"
 #include <ctype.h>
 #include <stdio.h>
 #include <stdlib.h>
@@ -197,6 +199,15 @@ static void say_list(const stretch *all, size_t repeats, char *said)
     for (size_t i = 0; i < repeats; i++) said += sprintf(said, "%s%zu-%zu", i ? " " : "", all[i].start, all[i].end);
 }
 
+/* the page with its LFs as a cell shows them; where the call names the bytes that it lends, they must be enough */
+static void say_page(const char *room, char *said)
+{
+    char page[SECOND_PAGE_ROOM];
+    size_t n = second_page(letters, size, page);
+    if (*room && strtoul(room, NULL, 10) < n) fail("a page into too few bytes", "accepted", room);
+    for (size_t i = 0; i < n; i++) said += sprintf(said, page[i] == '\n' ? "<br>" : "%c", page[i]);
+}
+
 /* what every stretch answers to a question */
 static void ask(const char *call, char *said)
 {
@@ -216,6 +227,7 @@ static void ask(const char *call, char *said)
     else if (strncmp(call, "spell ", 6) == 0) say_spelling(number, said);
     else if (strncmp(call, "find ", 5) == 0) say_found(about, said);
     else if (strncmp(call, "list ", 5) == 0) say_list(all, repeats, said);
+    else if (strcmp(call, "genbank") == 0 || strncmp(call, "genbank ", 8) == 0) say_page(about, said);
     else fail("a call", call, "none");
 }
 

@@ -1,7 +1,7 @@
 /* Two versions of the library side by side: each call goes to both with the same arguments and equal bytes lent, and the
  * answers and every lent byte afterwards must be equal. Long sittings at both ends with turns and every question, structured
- * words up to full length with both ends asked at every letter, stores damaged in every way, FASTA texts and lists; nothing is
- * judged here but that both do the same, and that each leaves its scratch as a list must. tests/versions builds the two.
+ * words up to full length with both ends asked at every letter, stores damaged in every way, FASTA texts, lists and pages; nothing
+ * is judged here but that both do the same, and that each leaves its scratch as a list must. tests/versions builds the two.
  *
  *     versions ONE.so OTHER.so SEED CALLS [LEFT OUT..]
  *
@@ -188,6 +188,7 @@ static call some_call(call_kind kind, unsigned alphabet)
     if (kind == ROW || kind == FREQUENCY || kind == SPELL) c.number = some_number(capacity);
     if (kind == SPELL) c.out_length = random_below((unsigned)size + 3);
     if (kind == FIND) c.text_length = some_piece(bytes);
+    if (kind == GENBANK) c.out_length = random_below(12) ? MIRROR_GENBANK_SIZE(size) + random_below(3) : random_below((unsigned)MIRROR_GENBANK_SIZE(size));
     if (kind == LIST) {
         c.text_length = some_name(bytes);
         c.scratch_length = random_below(12) ? 1 + random_below(random_below(6) ? 3 : 4 * (unsigned)size + 1) : 0; /* as make_list counts them */
@@ -196,11 +197,11 @@ static call some_call(call_kind kind, unsigned alphabet)
     return c;
 }
 
-/* spelling and listing again, into as many bytes as they wrote and into one fewer */
+/* spelling, listing and printing again, into as many bytes as they wrote and into one fewer */
 static void tighten(call *c, uint64_t answer)
 {
     size_t wrote = answer >> 32 & 0xffff;
-    if ((answer & 0xff) != 0 || (c->kind != SPELL && c->kind != LIST)) return;
+    if ((answer & 0xff) != 0 || (c->kind != SPELL && c->kind != LIST && c->kind != GENBANK)) return;
     c->out_length = wrote;
     make(c);
     if (wrote == 0) return;
@@ -334,9 +335,10 @@ static unsigned char letter_of(unsigned word, unsigned reading, size_t i)
     return (unsigned char)"AC"[second];
 }
 
-static void ask_list(void)
+/* the list, or the page */
+static void ask_written(call_kind kind)
 {
-    call c = some_call(LIST, 4);
+    call c = some_call(kind, 4);
     tighten(&c, make(&c));
 }
 
@@ -352,7 +354,7 @@ static void ask_places(void)
 }
 
 /* an addition or a removal at the right (0), at the left (1) or at either end (2), then what stands at both and, now and then, the
- * list and places */
+ * list, the page and places */
 static void change_at(unsigned ends, call_kind at_left, uint64_t letter)
 {
     unsigned right = ends == 2 ? random_below(2) : ends == 0;
@@ -362,18 +364,21 @@ static void change_at(unsigned ends, call_kind at_left, uint64_t letter)
         call asked = {kind, 0, NULL, 0, 0, 0};
         make(&asked);
     }
-    if (random_below(16) == 0) ask_list();
+    if (random_below(16) == 0) ask_written(LIST);
+    if (random_below(16) == 0) ask_written(GENBANK);
     if (random_below(16) == 0) ask_places();
 }
 
-/* a word of n letters joins and is taken away again, and where it is longest it is listed, counted and damaged in every way */
+/* a word of n letters joins and is taken away again, and where it is longest it is listed, printed, counted and damaged in every
+ * way */
 static void word_sitting(size_t n)
 {
     unsigned reading = without_inverted() ? PLAIN : random_below(READINGS), word = random_below(WORDS), joined = random_below(3), taken = random_below(3);
     fill(MIRROR_STORE_SIZE(n) + random_below(EXTRA));
     if (!open_both(reading, n)) return;
     for (size_t i = 0; i < n && total < budget; i++) change_at(joined, ADD_LEFT, letter_of(word, reading, i));
-    ask_list();
+    ask_written(LIST);
+    ask_written(GENBANK);
     ask_places();
     if (!stores_apart) spoil_in_every_way();
     for (size_t i = 0; i < n && total < budget; i++) change_at(taken, REMOVE_LEFT, 0);

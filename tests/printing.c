@@ -1,0 +1,248 @@
+/* The record printed as in GenBank, 02 (iv), through the C boundary: the page is held against that of a second writer and read
+ * back column by column. Records of every number of letters from 0 to 130 and of 999 to 1,001, 1,023 and 1,024, in either reading
+ * and turned, with their letters put in at the right, at the left, at both ends and between letters that go again, are printed into
+ * every room from twelve bytes too few (short records from none) to twelve more than the page has; records that grow to 1,024
+ * letters and shrink again are printed after every change. Too little room is 9 and leaves every byte; else the page stands at the
+ * front, and every byte behind it stays. Before the call the room holds one of eight byte values, most of which a page has too. The
+ * page of a record that is turned is the same; no byte of a store may change; what is not good is 3, whatever the room. The
+ * buffers end at a guard page or begin right after one. Usage: printing [seed] */
+#include "brute.h"
+#include "guard.h"
+#include "layout.h"
+#include "mirror.h"
+#include "random.h"
+#include "second_page.h"
+#include <ctype.h>
+#include <stdio.h>
+#include <stdlib.h>
+#include <string.h>
+
+enum { MOST = LAYOUT_MOST, SHORT = 130, FROM_NONE = 12, ABOUT = 12, OTHERS = 7, STORE_SLOT = 0, OUT_SLOT };
+enum { AT_THE_RIGHT, AT_THE_LEFT, AT_BOTH_ENDS, BETWEEN_OTHERS, WAYS };
+
+static const uint8_t fillings[] = {' ', '\n', 0, '1', 'a', 'T', '/', 0xff};
+static uint8_t *store, *out, kept[MIRROR_STORE_SIZE(MOST)];
+static unsigned reading;
+static unsigned char letters[MOST];
+static size_t size, capacity, length;
+static char page[SECOND_PAGE_ROOM]; /* of these letters, by the second writer */
+static size_t need;
+static unsigned long pages, refused, damaged, read_back, turned;
+
+static void must(const char *what, uint64_t wanted, uint64_t got)
+{
+    if (wanted == got) return;
+    printf("%s record %.*s%s (%zu letters, capacity %zu): %s: wanted %llx, got %llx\n", reading == PLAIN ? "plain" : "inverted",
+           (int)(size < 60 ? size : 60), (char *)letters, size < 60 ? "" : "..", size, capacity, what, (unsigned long long)wanted,
+           (unsigned long long)got);
+    exit(1);
+}
+
+/* ---- one record */
+
+static void done(uint64_t answer)
+{
+    must("a change is refused", 0, mirror_refusal(answer));
+}
+
+static void open_record(unsigned wanted, size_t room)
+{
+    reading = wanted;
+    size = 0;
+    capacity = room;
+    length = MIRROR_STORE_SIZE(capacity);
+    store = guard_room(STORE_SLOT, length);
+    done((reading == PLAIN ? mirror_open : mirror_open_inverted)(store, length, capacity));
+}
+
+static void join(int left)
+{
+    unsigned char letter = (unsigned char)"ACGT"[random_below(4)];
+    memmove(letters + left, letters, size);
+    letters[left ? 0 : size] = letter;
+    size++;
+    done((left ? mirror_add_left : mirror_add_right)(store, length, letter));
+}
+
+static void leave(int left)
+{
+    size--;
+    memmove(letters, letters + left, size);
+    done((left ? mirror_remove_left : mirror_remove_right)(store, length));
+}
+
+static void turn(void)
+{
+    reading = reading == PLAIN ? INVERTED : PLAIN;
+    done((reading == PLAIN ? mirror_turn_plain : mirror_turn_inverted)(store, length));
+    turned++;
+}
+
+/* n random letters as a record, which is opened in the other reading where it is turned then */
+static void make_record(unsigned wanted, size_t n, int way, int turns)
+{
+    size_t others = way == BETWEEN_OTHERS && n + 2 * OTHERS <= MOST ? OTHERS : 0;
+    open_record(turns ? !wanted : wanted, n + 2 * others + (n < MOST));
+    for (size_t i = 0; i < n + 2 * others; i++) join(way == AT_THE_LEFT || (way != AT_THE_RIGHT && random_below(2)));
+    for (size_t i = 0; i < 2 * others; i++) leave(i % 2 == 0);
+    if (turns) turn();
+}
+
+/* ---- one page */
+
+/* prints into so many bytes that all hold the value; 1 where the page was written */
+static int print(size_t room, uint8_t value)
+{
+    int fits = room >= need;
+    out = guard_room(OUT_SLOT, room);
+    memset(out, value, room);
+    must("the answer", fits ? (uint64_t)need << 32 : MIRROR_NO_ROOM, mirror_genbank(store, length, out, room));
+    must("a byte of the page differs", 0, fits && memcmp(out, page, need) != 0);
+    for (size_t i = fits ? need : 0; i < room; i++) must(fits ? "a byte behind the page" : "a byte after a refusal", value, out[i]);
+    pages += (unsigned long)fits;
+    refused += !fits;
+    return fits;
+}
+
+/* the page of the letters that the record must have now */
+static void choose_page(void)
+{
+    need = second_page(letters, size, page);
+    must("the length by the header", need, MIRROR_GENBANK_SIZE(size));
+    memcpy(kept, store, length);
+}
+
+static void store_stays(void)
+{
+    must("a byte of the store changed", 0, memcmp(store, kept, length) != 0);
+}
+
+/* One line, column by column: nine for the place of its first letter, then in each eleventh column, from the first behind them
+ * on, a blank, and in every other one the small form of the letter that the record answers. */
+static const uint8_t *read_line(const uint8_t *line, size_t first)
+{
+    unsigned place = 0;
+    size_t at = first, column;
+    for (column = 0; column < 9; column++) {
+        must("neither blank nor digit before the letters", 1, isdigit(line[column]) || (line[column] == ' ' && place == 0));
+        if (line[column] != ' ') place = 10 * place + line[column] - '0';
+        must("a zero in front", 0, line[column] == '0' && place == 0);
+    }
+    must("the place of a line's first letter", first + 1, place);
+    for (; line[column] != '\n'; column++) {
+        int blank = (column - 9) % 11 == 0;
+        must("a line goes on behind the letters", 1, at < size && at < first + 60);
+        must("a column", blank ? ' ' : (uint64_t)tolower((int)mirror_first(mirror_letter(store, length, at))), line[column]);
+        at += !blank;
+    }
+    must("a line ends before the letters do", 1, at == size || at == first + 60);
+    return line + column + 1;
+}
+
+/* what was printed last, read without the second writer */
+static void read_page(void)
+{
+    const uint8_t *line = out;
+    must("the first line", 0, memcmp(line, "ORIGIN\n", 7) != 0);
+    line += 7;
+    for (size_t first = 0; first < size; first += 60) line = read_line(line, first);
+    must("the last line", 0, memcmp(line, "//\n", 3) != 0);
+    must("the page's length", need, (uint64_t)(line + 3 - out));
+    read_back++;
+}
+
+/* every room about the need, or from none on; those that are enough are more than the values, so each value lies under a page */
+static void every_room(void)
+{
+    size_t from = need > ABOUT && size > FROM_NONE ? need - ABOUT : 0;
+    for (size_t room = from; room <= need + ABOUT; room++) print(room, fillings[(room + size) % sizeof fillings]);
+    store_stays();
+}
+
+/* the record turned: the same bytes, and again the same once it is turned back */
+static void either_reading(void)
+{
+    for (int i = 0; i < 2; i++) {
+        turn();
+        memcpy(kept, store, length);
+        for (size_t room = need - 1; room <= need + 1; room++) print(room, fillings[(room + (size_t)i) % sizeof fillings]);
+        store_stays();
+    }
+}
+
+/* 3 comes before 9, and neither writes a byte */
+static void not_good(const char *what)
+{
+    const size_t rooms[] = {0, need - 1, need, need + ABOUT};
+    for (size_t i = 0; i < sizeof rooms / sizeof rooms[0]; i++) {
+        out = guard_room(OUT_SLOT, rooms[i]);
+        memset(out, 'x', rooms[i]);
+        must(what, MIRROR_DAMAGED, mirror_genbank(store, length, out, rooms[i]));
+        for (size_t k = 0; k < rooms[i]; k++) must("a byte of what is not good", 'x', out[k]);
+        damaged++;
+    }
+}
+
+/* a letter that is none, a small one, a reading that is none, a byte too few */
+static void damage(void)
+{
+    uint8_t *letter = store + layout_letters(capacity) + size / 2, was = *letter;
+    for (const char *other = "Nacgt "; size > 0 && *other; other++) {
+        *letter = (uint8_t)*other;
+        not_good("a letter that is none");
+    }
+    *letter = was;
+    layout_put(store, 0, CELL_READING, READINGS);
+    not_good("a reading that is none");
+    layout_put(store, 0, CELL_READING, reading);
+    length--;
+    not_good("a store too short");
+    length++;
+    store_stays();
+    must("it is good again", 1, (uint64_t)print(need, 'x'));
+}
+
+/* ---- all of it */
+
+static void one_record(unsigned wanted, size_t n, int way, int turns)
+{
+    guard_at((n + (size_t)way) % 2 ? GUARD_BEFORE : GUARD_AFTER);
+    make_record(wanted, n, way, turns);
+    choose_page();
+    every_room();
+    read_page();
+    either_reading();
+    damage();
+}
+
+/* a record that grows to 1,024 letters and shrinks again, with the page after every change into just its bytes, one more, or one
+ * fewer */
+static void moving_record(unsigned wanted, int way)
+{
+    guard_at(way % 2 ? GUARD_BEFORE : GUARD_AFTER);
+    open_record(wanted, MOST);
+    for (size_t i = 0; i <= 2 * MOST; i++) {
+        choose_page();
+        print(need, fillings[i % sizeof fillings]);
+        print(i % 2 ? need - 1 : need + 1, fillings[(i + 3) % sizeof fillings]);
+        store_stays();
+        int left = way == AT_THE_LEFT || (way == AT_BOTH_ENDS && random_below(2));
+        if (i < MOST) join(left);
+        else if (size > 0) leave(left);
+    }
+}
+
+int main(int argc, char **argv)
+{
+    static const size_t lengths[] = {999, 1000, 1001, 1023, 1024};
+    random_seed(argc > 1 ? argv[1] : NULL, 20261120);
+    for (unsigned wanted = PLAIN; wanted < READINGS; wanted++) {
+        for (size_t n = 0; n <= SHORT; n++)
+            for (int way = 0; way < WAYS; way++) one_record(wanted, n, way, (n + (size_t)way) % 3 == 0);
+        for (size_t i = 0; i < sizeof lengths / sizeof lengths[0]; i++) one_record(wanted, lengths[i], (int)(i + wanted) % WAYS, i % 2 == 0);
+        for (int way = 0; way <= AT_BOTH_ENDS; way++) moving_record(wanted, way);
+    }
+    printf("%lu pages of 0 to 1,024 letters, %lu of them read back, after %lu turns; %lu rooms too small and %lu stores that are not good refused\n",
+           pages, read_back, turned, refused, damaged);
+    return 0;
+}
