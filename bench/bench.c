@@ -1,12 +1,12 @@
 /* The benchmark: the library beside its C twin, in one run, on five words and four sizes in either reading, inverted
- * records beside plain ones, turns, frequency, occurrences and the longest length beside length, removals and the longest at an
- * end beside additions, and finding a piece of a million letters beside testing them.
+ * records beside plain ones, turns, frequency, occurrences, genbank and the longest length beside length, removals and the
+ * longest at an end beside additions, and finding a piece of a million letters beside testing them.
  *
  * Prints ratios, library over twin, since times of one machine say little; a ratio above the limit is marked with !.
  * The argument names the file that gets the drawing of growth. Ends with 1 if a tested call at 1,000 letters, a fill or
  * reading FASTA is above its limit, or if at 1,000 letters an inverted record beside a plain one, a turn, frequency,
- * occurrences or the longest length beside length, or a removal or the longest at an end beside an addition, takes longer than
- * it may, or a piece of a million letters that breaks at its first pair longer than the test of its letters. */
+ * occurrences, genbank or the longest length beside length, or a removal or the longest at an end beside an addition, takes
+ * longer than it may, or a piece of a million letters that breaks at its first pair longer than the test of its letters. */
 #include <math.h>
 
 #include "calls.h"
@@ -102,7 +102,9 @@ static double length_limit(int call)
         return TURN_LIMIT;
     if (is_frequency(call))
         return FREQUENCY_LIMIT;
-    return call == CALL_OCCURRENCES ? OCCURRENCES_LIMIT : 0;
+    if (call == CALL_OCCURRENCES)
+        return OCCURRENCES_LIMIT;
+    return call == CALL_GENBANK ? GENBANK_LIMIT : 0;
 }
 
 /* The line below a call that is held against length on the same letters in the reading that the word is made for; how many
@@ -411,9 +413,9 @@ int main(int count, char **arguments)
         return 2;
     }
     printf("Tested calls: microseconds of the library, and their ratio to the twin's; ! where above %.1f\n"
-           "Below a turn, frequency and occurrences their time over that of length on the same letters, in the library and in the "
-           "twin; ! where above %.1f, %.1f and %.1f\n",
-           RATIO_LIMIT, TURN_LIMIT, FREQUENCY_LIMIT, OCCURRENCES_LIMIT);
+           "Below a turn, frequency, occurrences and genbank their time over that of length on the same letters, in the library "
+           "and in the twin; ! where above %.1f, %.1f, %.1f and %.1f\n",
+           RATIO_LIMIT, TURN_LIMIT, FREQUENCY_LIMIT, OCCURRENCES_LIMIT, GENBANK_LIMIT);
     double test[SIZES][WORDS];
     int above = 0;
     for (int i = 0; i < SIZES; i++) {

@@ -1,10 +1,10 @@
 /* Whether the twin does the library's work: a benchmark of two programs that answer differently is worthless.
  *
  * Every call on every word in either reading, pieces to find that are repeats, nearly are, read alike and are absent or are
- * longer than the record, frequencies of every row and of numbers that are none, lists with scratch about the need, long random
- * sittings from both ends, some with turns, full records of every word taken away letter by letter, and damaged stores, in some of
- * which a carried number alone is untrue, go through both, and every answer and every lent byte must agree. Prints how many calls
- * were compared, and ends with 1 at the first difference. */
+ * longer than the record, frequencies of every row and of numbers that are none, lists with scratch about the need, pages with
+ * room about the need, long random sittings from both ends, some with turns, full records of every word taken away letter by
+ * letter, and damaged stores, in some of which a carried number alone is untrue, go through both, and every answer and every lent
+ * byte must agree. Prints how many calls were compared, and ends with 1 at the first difference. */
 #include <stdio.h>
 #include <stdlib.h>
 #include <string.h>
@@ -13,7 +13,7 @@
 #include "twin.h"
 #include "words.h"
 
-enum { STEPS = 6000, BETWEEN_TURNS = 50, LONG_PIECE = 2 * 65540 };
+enum { STEPS = 6000, BETWEEN_TURNS = 50, LONG_PIECE = 2 * 65540, OUT_PAINT = 0x5a };
 
 static struct sitting here, there;
 static unsigned long compared, refused;
@@ -74,12 +74,13 @@ static void compare_damaged(const char *where)
     compare(&calls[CALL_LONGEST_LENGTH], where);
     compare_ends(where);
     compare_counts(where);
+    compare(&calls[CALL_GENBANK], where);
     compare(&calls[CALL_REMOVE_LEFT], where);
     compare(&calls[CALL_REMOVE_RIGHT], where);
     compare_turns(where);
 }
 
-/* Spelling and listing into a buffer that just fits, and into one that is a byte short. */
+/* Spelling, listing and printing into a buffer that just fits, and into one that is a byte short. */
 static void tight(const struct sitting *s)
 {
     for (int i = CALL_SPELL; i < PAIRS; i++) {
@@ -303,6 +304,33 @@ static void all_frequencies(enum reading reading)
             frequencies(word, reading, sizes[i]);
 }
 
+/* The page of a record of n letters, with a byte of room less than it needs, with just enough and with one more. The buffer is
+ * painted, so that it shows what is written behind the page, or by a refusal. */
+static void pages(int word, enum reading reading, size_t n)
+{
+    static struct sitting s;
+    size_t need = MIRROR_GENBANK_SIZE(n);
+    seat(&s, word, reading, n, roomy(n));
+    memset(s.out, OUT_PAINT, sizeof s.out);
+    for (size_t lent = need - 1; lent <= need + 1; lent++) {
+        here = there = s;
+        here.out_length = there.out_length = lent;
+        if (compare(&calls[CALL_GENBANK], "room about the need") == (lent < need ? 9 : answer(false, 0, (unsigned)need, 0)))
+            continue;
+        printf("bench/same: genbank of %zu letters with room for %zu bytes\n", n, lent);
+        exit(1);
+    }
+}
+
+/* Pages of every word: of no letter, and about the ends of groups and of lines and where a place gets a digit more. */
+static void all_pages(enum reading reading)
+{
+    static const size_t sizes[] = {0, 1, 9, 10, 11, 59, 60, 61, 119, 120, 121, 1000, 1020, 1021, 1024};
+    for (int word = 0; word < ALL_WORDS; word++)
+        for (size_t i = 0; i < sizeof sizes / sizeof *sizes; i++)
+            pages(word, reading, sizes[i]);
+}
+
 /* The inputs that the benchmark times, and the largest records; each word in both readings, since one that was made for
  * the other has few repeats or none. */
 static void on_words(enum reading reading)
@@ -378,14 +406,15 @@ static void sitting(uint32_t seed, enum reading reading, size_t capacity, const 
     }
 }
 
-/* A full record of a word taken away at either end by chance, with both ends asked at every letter, and the counts by place and
- * a list at every eighth: what is removed leaves ranks to other rows, so that these come in no order. */
+/* A full record of a word taken away at either end by chance, with both ends asked and the page printed at every letter, and the
+ * counts by place and a list at every eighth: what is removed leaves ranks to other rows, so that these come in no order. */
 static void taken_away(uint32_t seed, int word, enum reading reading)
 {
     seat(&here, word, reading, CAPACITY_MOST, CAPACITY_MOST);
     there = here;
     while (size_of(here.store) > 0) {
         compare_ends(word_names[word]);
+        compare(&calls[CALL_GENBANK], word_names[word]);
         if (size_of(here.store) % 8 == 0) {
             here.often = there.often = draw_row(seed >> 8);
             compare_counts(word_names[word]);
@@ -478,6 +507,7 @@ int main(void)
         on_words(reading);
         all_finds(reading);
         all_frequencies(reading);
+        all_pages(reading);
         for (int word = 0; word < ALL_WORDS; word++) {
             lists(word, reading);
             taken_away((uint32_t)word + 1, word, reading);

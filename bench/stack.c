@@ -1,8 +1,9 @@
 /* The stack that each call takes. A call runs on a stack of its own, painted beforehand, and the deepest byte that it
  * changed is looked up afterwards; a call of an empty function is taken off. The records are full ones of 1,024
  * letters in either reading, a letter less for additions, where spelling and finding have the longest palindrome there is,
- * the list the most lines and a turn the most letters to set aside. What the list takes beyond length, which is the test and one
- * read, is told too. Ends with 1 if a call takes more than 64 KiB, or frequency or occurrences more than 8. */
+ * the list the most lines, genbank the longest page and a turn the most letters to set aside. What the list takes beyond length,
+ * which is the test and one read, is told too. Ends with 1 if a call takes more than 64 KiB, or frequency or occurrences more
+ * than 8. */
 #include <stdio.h>
 #include <string.h>
 #include <ucontext.h>

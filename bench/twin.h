@@ -46,6 +46,7 @@ uint64_t twin_spell_by_loop(const uint8_t *store, size_t length, uint64_t row, u
 uint64_t twin_find(const uint8_t *store, size_t length, const uint8_t *piece, size_t piece_length);
 uint64_t twin_list(const uint8_t *store, size_t length, const uint8_t *identifier, size_t identifier_length,
                    uint8_t *scratch, size_t scratch_length, uint8_t *out, size_t out_length);
+uint64_t twin_genbank(const uint8_t *store, size_t length, uint8_t *out, size_t out_length);
 
 void bare_open(uint8_t *store, size_t capacity, enum reading reading);
 uint64_t bare_add(uint8_t *store, enum side side, uint8_t letter);
