@@ -195,7 +195,7 @@ static void say_list(const struct line *l, uint64_t answer)
 /* The page is lent just the bytes that it has or, so that a refusal can be shown, as many as the line says. */
 static uint64_t make_genbank(const struct line *l)
 {
-    size_t room = MIRROR_GENBANK_SIZE(mirror_first(mirror_length(store, sizeof store)));
+    size_t letters = mirror_first(mirror_length(store, sizeof store)), room = MIRROR_GENBANK_SIZE(letters);
     if (*l->words[1]) room = l->number < sizeof text ? (size_t)l->number : sizeof text;
     uint64_t answer = mirror_genbank(store, sizeof store, text, room);
     written = mirror_first(answer);

@@ -28,7 +28,7 @@ extern "C" {
  * enough for it. */
 #define MIRROR_LIST_SCRATCH(letters) (((size_t)(letters) + 7) / 8)
 #define MIRROR_LIST_SIZE(letters) (45 * (size_t)(letters))
-/* The bytes that a GenBank page of so many letters has, 1,317 at most. */
+/* The bytes that a GenBank page of so many letters has, 1,317 at most. The argument is evaluated three times. */
 #define MIRROR_GENBANK_SIZE(letters) (10 + (size_t)(letters) + ((size_t)(letters) + 9) / 10 + 10 * (((size_t)(letters) + 59) / 60))
 
 enum {

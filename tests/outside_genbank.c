@@ -29,11 +29,13 @@ static int make_record(size_t n, int inverted, int turned)
 int main(int argc, char **argv)
 {
     size_t n = fread(letters, 1, MOST + 1, stdin), size = MIRROR_GENBANK_SIZE(n);
-    if (argc != 2 || n > MOST || strspn(letters, "ACGT") != n) {
-        fputs("not 0 to 1,024 letters A, C, G and T\n", stderr);
+    const char *way = argc == 2 ? argv[1] : "";
+    int inverted = strcmp(way, "inverted") == 0, turned = strcmp(way, "turned") == 0;
+    if ((!inverted && !turned && strcmp(way, "plain") != 0) || n > MOST || strspn(letters, "ACGT") != n) {
+        fputs("not plain, inverted or turned, or not 0 to 1,024 letters A, C, G and T\n", stderr);
         return 2;
     }
-    if (!make_record(n, strcmp(argv[1], "inverted") == 0, strcmp(argv[1], "turned") == 0)) {
+    if (!make_record(n, inverted, turned)) {
         fputs("the library refuses the letters\n", stderr);
         return 1;
     }

@@ -94,12 +94,13 @@ static int reads_alike(const char *w, size_t n)
 /* what a reader of GenBank files gets who takes all letters between the lines ORIGIN and // and minds neither places nor blanks */
 static void prints_the_letters(void)
 {
-    uint8_t page[MIRROR_GENBANK_SIZE(MOST)], *end;
+    uint8_t page[MIRROR_GENBANK_SIZE(MOST)];
     size_t n = strlen(letters), bytes = MIRROR_GENBANK_SIZE(n), at = 0;
+    const uint8_t *end = page + bytes - 3;
     key("bytes printed", (uint64_t)bytes << 32, mirror_genbank(store, length, page, bytes));
     key("line ORIGIN", 0, memcmp(page, "ORIGIN\n", 7) != 0);
-    key("line //", 0, memcmp(end = page + bytes - 3, "//\n", 3) != 0);
-    for (uint8_t *c = page + 7; c < end; c++)
+    key("line //", 0, memcmp(end, "//\n", 3) != 0);
+    for (const uint8_t *c = page + 7; c < end; c++)
         if (isalpha(*c)) key("letter printed", at < n ? (uint64_t)tolower(letters[at++]) : 0, *c);
     key("letters printed", n, at);
 }

@@ -9,15 +9,15 @@ ghost use lib.ListN.{length};
 ghost use lib.Seq.{sets};
 ghost use Rattle.palindromes.specs.Bed.{bedLine};
 
-// Writes the bytes of a name from the place `at` on, and answers the place behind them.
-pub fn copy(out: &mut [u8], at: usize, name: &[u8]) -> usize
-    requires { ⌜ at + length (now name) ≤ length (now out) ⌝ }
-    ensures written { λ _. ⌜ now (out .exit) ≡ sets (now (out .entry)) at (now (name .entry)) ⌝ }
-    ensures behind { λ r. ⌜ r ≡ at + length (now (name .entry)) ⌝ }
+// Writes the bytes of a word from the place `at` on, and answers the place behind them.
+pub fn copy(out: &mut [u8], at: usize, word: &[u8]) -> usize
+    requires { ⌜ at + length (now word) ≤ length (now out) ⌝ }
+    ensures written { λ _. ⌜ now (out .exit) ≡ sets (now (out .entry)) at (now (word .entry)) ⌝ }
+    ensures behind { λ r. ⌜ r ≡ at + length (now (word .entry)) ⌝ }
 {
     let mut i = 0;
-    while i < name.len() {
-        out[at + i] = name[i];
+    while i < word.len() {
+        out[at + i] = word[i];
         i += 1;
     }
     at + i

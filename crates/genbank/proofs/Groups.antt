@@ -1,25 +1,18 @@
 -- The letters of a group and the groups of a line, as they are put into their arrays and written out. Assumes nothing.
-use Prim.Native.Nat.{ℕ, zero, suc, _+_, _-_, _*_, _≤_, _<_}
+use Prim.Native.Nat.{ℕ, suc, _+_, _-_, _*_, _≤_, _<_, min}
 use native.Mathlib.Omega.{arith}
 use native.Mathlib.Decide.{decLt, ℕ-discrete}
 use native.Mathlib.Numerals.{add-one}
 use mathlib.Core.Path.{_≡_, refl, sym, ap, _∙_}
-use mathlib.Core.Logic.{_⊎_, inl, inr}
 use mathlib.Core.List.{List, [], _∷_, _++_, map, map-append}
-use lib.ListN.{length, getD, set, take, drop, length-set, length-map, length-drop, drop-of-length-le}
-use lib.Seq.{sets, length-sets, take-suc, take-all, length-take-le, getD-take, drop-drop, drop-cons, getD-set-same, getD-set-other}
+use lib.ListN.{length, getD, set, take, drop, length-set, length-map, length-take, length-drop, take-append-drop, drop-of-length-le}
+use lib.Seq.{sets, set-set, length-sets, take-suc, take-append-seam, length-take-le, getD-take, drop-drop, drop-cons, getD-set-same, getD-set-other}
 use Rattle.palindromes.specs.Word.{Word}
 use Rattle.palindromes.specs.Genbank.{lower, cut, groups}
 use Rattle.decimal.proofs.Stores.{sets-append, stored-front}
 use Rattle.genbank.specs.Line.{groupAt, SixOfTen, Holds}
 use Rattle.genbank.proofs.Cut.{cut-none, take-few}
 use Rattle.genbank.proofs.Size.{groups-more}
-
--- a row of a line, set again
-set-again : (line : List Word) (g : ℕ) (u v : Word) → set (set line g u) g v ≡ set line g v
-set-again [] g u v = refl
-set-again (x ∷ line) zero u v = refl
-set-again (x ∷ line) (suc g) u v = ap (λ (l : List Word). x ∷ l) (set-again line g u v)
 
 -- one letter more at the front of an array
 front-more : (w array : Word) (i : ℕ) → i < length w → set (sets array 0 (map lower (take i w))) i (lower (getD w i 0)) ≡ sets array 0 (map lower (take (i + 1) w))
@@ -37,23 +30,20 @@ letter-more line₀ line g i w h k e =
     let before : Word = sets (getD line₀ g []) 0 (map lower (take i w)) in
     let letter : ℕ = lower (getD w i 0) in
     ap (λ (l : List Word). set l g (set (getD l g []) i letter)) e
-    ∙ set-again line₀ g before (set (getD (set line₀ g before) g []) i letter)
+    ∙ set-set line₀ g before (set (getD (set line₀ g before) g []) i letter)
     ∙ ap (λ (a : Word). set line₀ g (set a i letter)) (getD-set-same line₀ g before [] h)
     ∙ ap (set line₀ g) (front-more w (getD line₀ g []) i k)
 
--- as many letters as `at_most` tells, taken from a place on, are the first `size` of what is left there
-pub part-is : (size from r : ℕ) (w : Word) → r ≤ size → (r ≡ size) ⊎ (r ≡ length w - from) → take (from + r - from) (drop from w) ≡ take size (drop from w)
-part-is size from r w h (inl e) =
-    let all : from + r - from ≡ size = omega (arith, e) in
-    ap (λ (k : ℕ). take k (drop from w)) all
-part-is size from r w h (inr e) =
-    take-all (from + r - from) (drop from w) (omega (arith, e, length-drop from w)) ∙ sym (take-all size (drop from w) (omega (arith, e, h, length-drop from w)))
+-- where a part of at most `size` letters begins at a place, it has r of them
+pub part-size : (size from r : ℕ) (w : Word) → r ≡ min size (length w - from) → r ≡ length (take size (drop from w))
+part-size size from r w e = e ∙ sym (length-take size (drop from w) ∙ ap (min size) (length-drop from w))
 
--- and it tells how many these are
-pub part-size : (size from r : ℕ) (w : Word) → (r ≤ size) × (r ≤ length w - from) × ((r ≡ size) ⊎ (r ≡ length w - from)) → r ≡ length (take size (drop from w))
-part-size size from r w h =
-    let cut : from + r - from ≡ r = omega arith in
-    sym (length-take-le r (drop from w) (omega (arith, h .1, length-drop from w))) ∙ ap (λ (k : ℕ). length (take k (drop from w))) (sym cut) ∙ ap length (part-is size from r w (h .0) (h .2))
+-- and these are what is taken
+pub part-is : (size from r : ℕ) (w : Word) → r ≡ min size (length w - from) → take (from + r - from) (drop from w) ≡ take size (drop from w)
+part-is size from r w e =
+    let part : Word = take size (drop from w) in
+    let all : from + r - from ≡ length part = omega (arith, part-size size from r w e) in
+    ap (λ (k : ℕ). take k (drop from w)) all ∙ ap (take (length part)) (sym (take-append-drop size (drop from w))) ∙ take-append-seam part (drop size (drop from w))
 
 -- six arrays of ten stay so when one of them is written
 pub shape-set : (line : List Word) (g : ℕ) (u : Word) → SixOfTen line → g < 6 → SixOfTen (set line g (sets (getD line g []) 0 u))

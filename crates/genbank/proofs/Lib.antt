@@ -6,4 +6,4 @@ pub mod ReadBack
 pub mod Place
 pub mod Groups
 pub mod Lines
-pub mod Left
+pub mod Unwritten

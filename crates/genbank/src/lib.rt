@@ -5,9 +5,8 @@ use bed::copy;
 use decimal::digits;
 use decimal::put_decimal;
 ghost use mathlib.Core.Path.{_≡_};
-ghost use mathlib.Core.Logic.{_⊎_};
 ghost use mathlib.Core.List.{[], _∷_, _++_, map};
-ghost use Prim.Native.Nat.{_+_, _<_, _≤_};
+ghost use Prim.Native.Nat.{_+_, _<_, _≤_, min};
 ghost use lib.ListN.{length, getD, set, take};
 ghost use lib.Seq.{sets};
 ghost use Rattle.palindromes.specs.Word.{Word};
@@ -37,14 +36,14 @@ fn set_group(line: &mut [[u8; 10]; 6], g: usize, w: &[u8])
     }
 }
 
-// How many of the letters that are left stand together, if `size` is the most.
-fn at_most(size: usize, left: usize) -> usize
-    ensures { λ r. ⌜ (r ≤ size) × (r ≤ left) × ((r ≡ size) ⊎ (r ≡ left)) ⌝ }
+// The smaller of two numbers.
+fn min(a: usize, b: usize) -> usize
+    ensures { λ r. ⌜ r ≡ min a b ⌝ }
 {
-    if left < size {
-        return left;
+    if b < a {
+        return b;
     }
-    size
+    a
 }
 
 // A line: six groups of ten, of which the last may be shorter and the later ones empty.
@@ -55,7 +54,7 @@ fn line(w: &[u8]) -> [[u8; 10]; 6]
     let mut line = [[b' '; 10]; 6];
     let mut g = 0;
     while 10 * g < w.len() {
-        let end = 10 * g + at_most(10, w.len() - 10 * g);
+        let end = 10 * g + min(10, w.len() - 10 * g);
         set_group(&mut line, g, &w[10 * g..end]);
         g += 1;
     }
@@ -91,7 +90,7 @@ fn put_groups(out: &mut [u8], at: usize, w: &[u8]) -> usize
     let mut end = at;
     let mut g = 0;
     while 10 * g < n {
-        end = put_group(out, end, &groups, g, at_most(10, n - 10 * g));
+        end = put_group(out, end, &groups, g, min(10, n - 10 * g));
         g += 1;
     }
     end
@@ -144,7 +143,7 @@ pub fn put_page(out: &mut [u8], letters: &[u8]) -> usize
     let mut at = copy(out, 0, b"ORIGIN\n");
     let mut from = 0;
     while from < letters.len() {
-        let end = from + at_most(60, letters.len() - from);
+        let end = from + min(60, letters.len() - from);
         at = put_line(out, at, from + 1, &letters[from..end]);
         from = end;
     }

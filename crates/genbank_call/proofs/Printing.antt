@@ -1,20 +1,16 @@
 -- What printing a record promises, on plain values. Rests on `Refusals`, `Promises` and `Fits` of the outcomes.
-use Prim.Native.Nat.{ℕ, _+_, _-_, _≤_, _<_}
+use Prim.Native.Nat.{ℕ, _≤_, _<_}
 use native.Mathlib.Omega.{arith}
 use mathlib.Core.Path.{_≡_, refl, sym, ap, _∙_}
 use mathlib.Core.Bool.{false}
 use mathlib.Core.List.{[]}
-use lib.ListN.{length, take, drop}
+use lib.ListN.{length}
 use lib.Seq.{sets}
 use Rattle.palindromes.specs.Word.{Word}
 use Rattle.palindromes.specs.Genbank.{genbank}
 use Rattle.palindromes.specs.Refusal.{ask, refusal, page}
 use Rattle.store.specs.Layout.{lettersIn}
-use Rattle.store.specs.Writes.{towards}
 use Rattle.store.specs.Good.{ruleOf, Good}
-use Rattle.walk.specs.Frame.{Frames}
-use Rattle.walk.specs.declared.frame.Frame.{Frame}
-use Rattle.walk.proofs.Stores.{framed-standing}
 use Rattle.outcome.specs.Reply.{packed, accepted}
 use Rattle.outcome.specs.Outcome.{viewIn, acceptedOutcome, answerTo, lentAfter, written}
 use Rattle.outcome.specs.Promise.{Promise, lending}
@@ -22,13 +18,6 @@ use Rattle.outcome.specs.Verdict.{Verdict, judged}
 use Rattle.outcome.proofs.Refusals.{page-short, page-accepted, page-room}
 use Rattle.outcome.proofs.Promises.{cleared, carried}
 use Rattle.outcome.proofs.Fits.{answer-fits}
-
--- the part of the store that its frame names is its letters
-pub letters-are : {b : Word} {f : Frame} → Frames b f → take (f .base + f .n - f .base) (drop (f .base) b) ≡ lettersIn b
-unfolding towards
-letters-are {b} {f} h =
-    let all : f .base + f .n - f .base ≡ f .n = omega arith in
-    ap (λ (n : ℕ). take n (drop (f .base) b)) all ∙ framed-standing h
 
 module _ (b : Word) (g : Good b) (out : Word) where
   pub too-short : {n : ℕ} → n ≡ length (genbank (lettersIn b)) → length out < n → Verdict (ask page) b (lending [] out) 9

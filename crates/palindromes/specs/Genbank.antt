@@ -26,7 +26,7 @@ unfoldable pub groups : List Word → Word
 groups [] = []
 groups (g ∷ gs) = (32 ∷ map lower g) ++ groups gs
 
--- blanks in front of a word fill its columns
+-- blanks in front of a word fill its columns; a word with more bytes than columns stands as it is
 unfoldable pub rightJustified : (columns : ℕ) → Word → Word
 rightJustified columns w = replicate (columns - length w) 32 ++ w
 

@@ -11,7 +11,7 @@ use Rattle.palindromes.specs.Reading.{asPlain}
 use Rattle.palindromes.specs.Genbank.{lower, cutUpTo, cut, groups, rightJustified, originLine, originLines, originHead, originEnd, genbank}
 use Rattle.palindromes.specs.Refusal.{page, ask}
 use Rattle.outcome.specs.Reply.{packed, refusedWith, unpacked}
-use Rattle.outcome.specs.Outcome.{Lent}
+use Rattle.outcome.specs.Outcome.{Lent, written}
 use Rattle.outcome.specs.Promise.{lending, Promise}
 use Rattle.traces.specs.Run.{storeAfter}
 use Rattle.traces.specs.Pages.{Pages}
@@ -39,6 +39,7 @@ unfolding genbank originHead originLines originLine rightJustified groups cut cu
 is-page = refl
 
 pub printed-CAC : (a : ℕ) (b′ : Word) (l′ : Lent) → Promise (ask page) end (lending [] (replicate 26 7)) a b′ l′ → l′ .out ≡ CAC-page ++ (7 ∷ 7 ∷ [])
+unfolding written
 printed-CAC a b′ l′ p =
     let room : length (genbank (67 ∷ 65 ∷ 67 ∷ [])) ≤ 26 = omega (arith, ap length is-page) in
     let q = its-pages .printed (lending [] (replicate 26 7)) a b′ l′ p room in

@@ -7,13 +7,13 @@ use mathlib.Core.Path.{_≡_, refl, sym, ap, _∙_}
 use mathlib.Core.Bool.{true, false}
 use mathlib.Core.List.{List}
 use lib.ListN.{length, take}
-use lib.Seq.{sets}
 use Rattle.palindromes.specs.Word.{Word, allLetters}
 use Rattle.palindromes.specs.Reading.{Reading, readingNumber}
 use Rattle.palindromes.specs.Genbank.{genbank}
 use Rattle.palindromes.specs.Refusal.{page, ask}
 use Rattle.decimal.proofs.Stores.{stored-front}
 use Rattle.genbank.specs.ReadBack.{readBack}
+use Rattle.genbank.proofs.Size.{page-most}
 use Rattle.genbank.proofs.ReadBack.{page-read}
 use Rattle.store.specs.Layout.{lettersIn}
 use Rattle.store.specs.Good.{Good}
@@ -22,6 +22,7 @@ use Rattle.outcome.specs.Reply.{accepted, refusalIn}
 use Rattle.outcome.specs.Outcome.{Lent, Outcome, outcome, acceptedOutcome, answerTo, lentAfter, written, refusedOutcome}
 use Rattle.outcome.specs.Promise.{lending, Promise, OpeningPromise}
 use Rattle.outcome.proofs.Refusals.{page-short, page-accepted, carried-out, refused-out}
+use Rattle.outcome.proofs.Fits.{few}
 use Rattle.outcome.proofs.Told.{told}
 use Rattle.traces.specs.Run.{Step, storeAfter, Run, lettersAfter, readingAfter, rowAfter}
 use Rattle.traces.specs.Claims.{SameAnswer}
@@ -33,11 +34,11 @@ use Rattle.traces.proofs.Theorem.{same-answer, state-after}
 
 -- the outcome where the page has room
 abbrev printedOutcome : Word → Word → Lent → Outcome
-printedOutcome s b l = record { reply = accepted false 0 (length (genbank s)) 0; store = b; lent = lending (l .scratch) (sets (l .out) 0 (genbank s)) }
+printedOutcome s b l = record { reply = accepted false 0 (length (genbank s)) 0; store = b; lent = lending (l .scratch) (written (genbank s) (l .out)) }
 
 module _ (s b : Word) (e : lettersIn b ≡ s) where
   with-room : (l : Lent) → length (genbank s) ≤ length (l .out) → outcome (ask page) b l ≡ printedOutcome s b l
-  unfolding acceptedOutcome answerTo lentAfter written
+  unfolding acceptedOutcome answerTo lentAfter
   with-room l h =
       carried-out (ask page) b l (page-accepted b l (rw e h)) ∙ ap (λ (t : Word). printedOutcome t b l) e
 
@@ -51,11 +52,16 @@ module _ (m k : ℕ) (s : Word) (row : Word → ℕ) (b : Word) (st : State m k 
   letters : allLetters s ≡ true
   letters = ap allLetters (sym (st .letters)) ∙ st .good .letters
 
+  -- at most 1,024
+  few-letters : length s ≤ 1024
+  few-letters = omega (arith, few (st .good), ap length (st .letters))
+
   printed : (l : Lent) (a : ℕ) (b′ : Word) (l′ : Lent) → Promise (ask page) b l a b′ l′ → length (genbank s) ≤ length (l .out) → Printed s b l a b′ l′
+  unfolding written
   printed l a b′ l′ p h =
       let t = told (st .good) p in
       let o = with-room s b (st .letters) l h in
-      let bytes : l′ ≡ lending (l .scratch) (sets (l .out) 0 (genbank s)) = t .lent ∙ ap (λ (x : Outcome). x .lent) o in
+      let bytes : l′ ≡ lending (l .scratch) (written (genbank s) (l .out)) = t .lent ∙ ap (λ (x : Outcome). x .lent) o in
       record {
         told = t .reply ∙ ap (λ (x : Outcome). x .reply) o;
         store = t .store ∙ ap (λ (x : Outcome). x .store) o;
@@ -82,7 +88,11 @@ module _ (way : Reading) (k : ℕ) (b₀ : Word) (h : Bytes b₀) (a : ℕ) (b :
       let st = state-after way k b₀ h a b p z r in
       let m = readingAfter (readingNumber way) xs in
       let row : Word → ℕ = λ w. rowAfter (readingNumber way) k xs w in
-      record { printed = printed m k (lettersAfter k xs) row (storeAfter b xs) st; short = short m k (lettersAfter k xs) row (storeAfter b xs) st }
+      record {
+        most = page-most (lettersAfter k xs) (few-letters m k (lettersAfter k xs) row (storeAfter b xs) st);
+        printed = printed m k (lettersAfter k xs) row (storeAfter b xs) st;
+        short = short m k (lettersAfter k xs) row (storeAfter b xs) st;
+      }
 
 -- two stores with the same letters come to the same reply and the same buffers
 module _ (b c : Word) (e : lettersIn b ≡ lettersIn c) (l : Lent) where

@@ -1,9 +1,9 @@
 -- What a store of the right sizes gives to code that reads it: the header, each used row and the letters lie within it, and the letters that a frame of it shows are its letters.
 -- Assumes nothing.
-use Prim.Native.Nat.{ℕ, _+_, _≤_}
+use Prim.Native.Nat.{ℕ, _+_, _-_, _≤_}
 use native.Mathlib.Omega.{arith}
-use mathlib.Core.Path.{_≡_, ap}
-use lib.ListN.{length}
+use mathlib.Core.Path.{_≡_, ap, _∙_}
+use lib.ListN.{length, take, drop}
 use Rattle.palindromes.specs.Word.{Word}
 use Rattle.palindromes.specs.Reading.{ruleIn}
 use Rattle.palindromes.specs.Refusal.{storeSize}
@@ -51,6 +51,13 @@ module _ {b : Word} {f : Frame} (h : Frames b f) where
   pub framed-standing : standingIn b f Right ≡ lettersIn b
   unfolding towards
   framed-standing = framed-right
+
+  -- they are the part of the store from the base on to the last of them
+  pub framed-part : take (f .base + f .n - f .base) (drop (f .base) b) ≡ lettersIn b
+  unfolding towards
+  framed-part =
+      let all : f .base + f .n - f .base ≡ f .n = omega arith in
+      ap (λ (n : ℕ). take n (drop (f .base) b)) all ∙ framed-standing
 
   -- and so is the partner rule
   pub framed-rule : (d : ℕ) → partnerIn f d ≡ ruleOf b d

@@ -28,11 +28,11 @@ loop-holds : tie.Need-loop-holds Inv-loop μ-loop
 loop-holds c = (blank, omega arith, λ h b. absurd (omega arith))
 
 -- what is taken of the letters is the group
-taken : (c : tie.After-at-most Inv-loop μ-loop)
+taken : (c : tie.After-min Inv-loop μ-loop)
     → let from = 10 * c .before .before .loop .g in
     let w = c .before .before .before .before .args .w .now in
-    take (from + c .at-most .result - from) (drop from w) ≡ take 10 (drop from w)
-taken c = part-is 10 _ _ _ (c .at-most .ensures .0) (c .at-most .ensures .2)
+    take (from + c .min .result - from) (drop from w) ≡ take 10 (drop from w)
+taken c = part-is 10 (10 * c .before .before .loop .g) _ (c .before .before .before .before .args .w .now) (c .min .ensures)
 
 -- and there is an array for it
 in-line : (c : tie.In-loop Inv-loop μ-loop) → c .before .loop .g < 6

@@ -6,13 +6,13 @@ use mathlib.Core.Path.{_≡_, refl, _∙_}
 use mathlib.Core.List.{[], _∷_}
 use lib.ListN.{length, getD, set, take, drop, length-set, length-drop, drop-of-length-le}
 use lib.Seq.{length-take-le}
-use Rattle.genbank.proofs.Left.{Left, all-left, left-as, left-next, none-left, room-left}
+use Rattle.genbank.proofs.Unwritten.{Unwritten, all-left, left-as, left-next, none-left, room-left}
 use Rattle.genbank.proofs.Groups.{next-letter}
 use Rattle.genbank.proofs.put_group.Statement.{statement}
 use Rattle.genbank.proofs.put_group.Tie as tie
 
 abbrev Inv-loop : tie.InvT-loop
-Inv-loop out₀ at line g count end₀ i₀ out end i = (i ≤ count) × Left out₀ end₀ (take count (getD line g [])) out end (drop i (take count (getD line g [])))
+Inv-loop out₀ at line g count end₀ i₀ out end i = (i ≤ count) × Unwritten out₀ end₀ (take count (getD line g [])) out end (drop i (take count (getD line g [])))
 
 abbrev μ-loop : tie.MeasureT-loop
 μ-loop out₀ at line g count end₀ i₀ out end i = count - i
@@ -35,6 +35,11 @@ slice-write-out-2 c =
     let r = room-left (k .inv .1) (simp length-set (omega (arith, s .pre .1, all-taken s))) in
     omega (arith, r, length-drop (k .i) letters, all-taken s, c .before .loop-test .taken)
 
+add-end-2 : tie.Need-add-end-2 Inv-loop μ-loop
+add-end-2 c =
+    let s = c .before .before .before in
+    omega (arith, slice-write-out-2 c, c .before .before .loop .inv .1 .same, length-set (s .args .out .now) (s .args .at) 32, s .good .0 .0)
+
 loop-again : tie.Need-loop-again Inv-loop μ-loop
 loop-again c =
     let k = c .before .before .loop in
@@ -46,7 +51,7 @@ loop-again c =
 -- at the end nothing is left
 finished : (c : tie.After-loop Inv-loop μ-loop)
     → let s = c .before .before in
-    Left (set (s .args .out .now) (s .args .at) 32) (s .args .at + 1) (take (s .args .count) (getD (s .args .line .now) (s .args .g) [])) (c .before .loop .out) (c .before .loop .end) []
+    Unwritten (set (s .args .out .now) (s .args .at) 32) (s .args .at + 1) (take (s .args .count) (getD (s .args .line .now) (s .args .g) [])) (c .before .loop .out) (c .before .loop .end) []
 finished c =
     let k = c .before .loop in
     let s = c .before .before in
@@ -77,7 +82,7 @@ put-group-spec =
     (λ c. c .before .before .pre .0 .1)
     (λ c. omega (arith, c .before .before .pre .0 .2, c .loop-test .taken))
     slice-write-out-2
-    (λ c. omega (arith, slice-write-out-2 c, c .before .before .loop .inv .1 .same, length-set (c .before .before .before .args .out .now) (c .before .before .before .args .at) 32, c .before .before .before .good .0 .0))
+    add-end-2
     (λ c. omega arith)
     (λ c. omega arith)
     loop-again

@@ -9,12 +9,12 @@ use Rattle.palindromes.specs.Word.{Word}
 use Rattle.palindromes.specs.Genbank.{lower, cut, groups}
 use Rattle.genbank.specs.Line.{groupAt}
 use Rattle.genbank.proofs.Groups.{part-size, groups-from, no-groups}
-use Rattle.genbank.proofs.Left.{Left, all-left, left-as, left-next, none-left, room-left}
+use Rattle.genbank.proofs.Unwritten.{Unwritten, all-left, left-as, left-next, none-left, room-left}
 use Rattle.genbank.proofs.put_groups.Statement.{statement}
 use Rattle.genbank.proofs.put_groups.Tie as tie
 
 abbrev Inv-loop : tie.InvT-loop
-Inv-loop out₀ at w n line end₀ g₀ out end g = (10 * g < length w + 10) × Left out₀ at (groups (cut 10 w)) out end (groups (cut 10 (drop (10 * g) w)))
+Inv-loop out₀ at w n line end₀ g₀ out end g = (10 * g < length w + 10) × Unwritten out₀ at (groups (cut 10 w)) out end (groups (cut 10 (drop (10 * g) w)))
 
 abbrev μ-loop : tie.MeasureT-loop
 μ-loop out₀ at w n line end₀ g₀ out end g = length w + 10 - 10 * g
@@ -23,17 +23,21 @@ loop-holds : tie.Need-loop-holds Inv-loop μ-loop
 loop-holds c = (omega arith, all-left _ _ _)
 
 -- the turn that a call stands in
-abbrev turn : tie.After-at-most Inv-loop μ-loop → tie.In-loop Inv-loop μ-loop
+abbrev turn : tie.After-min Inv-loop μ-loop → tie.In-loop Inv-loop μ-loop
 turn c = c .before .before .before
 
+-- and the entry of that turn
+abbrev entry : tie.In-loop Inv-loop μ-loop → tie.Start Inv-loop μ-loop
+entry c = c .before .before .before .before .before
+
 -- as many letters are asked for as the group has
-as-many : (c : tie.After-at-most Inv-loop μ-loop) → c .at-most .result ≡ length (groupAt (turn c .before .loop .g) (turn c .before .before .before .before .before .args .w .now))
-as-many c = part-size 10 (10 * turn c .before .loop .g) _ (turn c .before .before .before .before .before .args .w .now) (c .at-most .ensures)
+as-many : (c : tie.After-min Inv-loop μ-loop) → c .min .result ≡ length (groupAt (turn c .before .loop .g) (entry (turn c) .args .w .now))
+as-many c = part-size 10 (10 * turn c .before .loop .g) _ (entry (turn c) .args .w .now) (c .min .ensures)
 
 -- and what stands at the front of its array is the group
-taken : (c : tie.After-at-most Inv-loop μ-loop)
+taken : (c : tie.After-min Inv-loop μ-loop)
     → let k = turn c .before .loop in
-    take (c .at-most .result) (getD (turn c .before .before .line .result) (k .g) []) ≡ map lower (groupAt (k .g) (turn c .before .before .before .before .before .args .w .now))
+    take (c .min .result) (getD (turn c .before .before .line .result) (k .g) []) ≡ map lower (groupAt (k .g) (entry (turn c) .args .w .now))
 taken c =
     let k = turn c .before .loop in
     let made = turn c .before .before .line in
@@ -43,12 +47,12 @@ put-group-requires : tie.Need-put-group-requires Inv-loop μ-loop
 put-group-requires c κs =
     let h = turn c .loop-test .taken in
     let k = turn c .before .loop in
-    let s = turn c .before .before .before .before .before in
+    let s = entry (turn c) in
     let w = s .args .w .now in
     let group : Word = 32 ∷ map lower (groupAt (k .g) w) in
     let later : Word = groups (cut 10 (drop (10 * (k .g + 1)) w)) in
     let r = room-left (left-as (groups-from w (k .g) h) (k .inv .1)) (s .pre .1) in (
-      (turn c .before .before .line .ensures .shape, omega (arith, h, s .pre .0), c .at-most .ensures .0),
+      (turn c .before .before .line .ensures .shape, omega (arith, h, s .pre .0), omega (arith, c .min .ensures)),
       omega (arith, r, length-append group later, as-many c, length-map (groupAt (k .g) w) lower),
     )
 

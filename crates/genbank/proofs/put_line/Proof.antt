@@ -8,7 +8,7 @@ use Rattle.palindromes.specs.Word.{Word}
 use Rattle.palindromes.specs.Bed.{decimal}
 use Rattle.palindromes.specs.Genbank.{cut, groups, rightJustified, originLine}
 use Rattle.genbank.proofs.Size.{place-size, line-parts, line-size}
-use Rattle.genbank.proofs.Left.{Left, all-left, left-as, left-next, none-left, room-left}
+use Rattle.genbank.proofs.Unwritten.{Unwritten, all-left, left-as, left-next, none-left, room-left}
 use Rattle.genbank.proofs.put_line.Statement.{statement}
 use Rattle.genbank.proofs.put_line.Tie as tie
 
@@ -22,7 +22,7 @@ from-place c = c .before .before .before .before
 
 behind-place : (c : tie.After-put-place)
     → let s = from-place c in
-    Left (s .args .out .now) (s .args .at) (whole s) (c .put-place .last .0) (c .put-place .result) (groups (cut 10 (s .args .w .now)) ++ (10 ∷ []))
+    Unwritten (s .args .out .now) (s .args .at) (whole s) (c .put-place .last .0) (c .put-place .result) (groups (cut 10 (s .args .w .now)) ++ (10 ∷ []))
 behind-place c =
     let s = from-place c in
     let columns = rightJustified 9 (decimal (s .args .place)) in
@@ -34,7 +34,7 @@ from-groups c = c .before .before .before .before
 
 behind-groups : (c : tie.After-put-groups)
     → let s = from-place (from-groups c) in
-    Left (s .args .out .now) (s .args .at) (whole s) (c .put-groups .last .0) (c .put-groups .result) (10 ∷ [])
+    Unwritten (s .args .out .now) (s .args .at) (whole s) (c .put-groups .last .0) (c .put-groups .result) (10 ∷ [])
 behind-groups c =
     let s = from-place (from-groups c) in
     left-next (groups (cut 10 (s .args .w .now))) _ (behind-place (from-groups c)) (c .put-groups .ensures .0) (c .put-groups .ensures .1)
@@ -65,7 +65,7 @@ add-result c =
 finished : (c : tie.After-slice-known3)
     → let g = c .before .before in
     let s = from-place (from-groups g) in
-    Left (s .args .out .now) (s .args .at) (whole s) (set (g .put-groups .last .0) (g .put-groups .result) 10) (g .put-groups .result + 1) []
+    Unwritten (s .args .out .now) (s .args .at) (whole s) (set (g .put-groups .last .0) (g .put-groups .result) 10) (g .put-groups .result + 1) []
 finished c = left-next (10 ∷ []) [] (behind-groups (c .before .before)) refl refl
 
 same-length : tie.Need-same-length

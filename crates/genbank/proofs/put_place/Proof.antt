@@ -11,13 +11,13 @@ use Rattle.palindromes.specs.Genbank.{rightJustified}
 use Rattle.decimal.proofs.Decimal.{some-digit}
 use Rattle.genbank.proofs.Size.{place-size}
 use Rattle.genbank.proofs.Place.{blanks-first, one-blank, no-blank}
-use Rattle.genbank.proofs.Left.{Left, all-left, left-as, left-next, none-left, room-left}
+use Rattle.genbank.proofs.Unwritten.{Unwritten, all-left, left-as, left-next, none-left, room-left}
 use Rattle.genbank.proofs.put_place.Statement.{statement}
 use Rattle.genbank.proofs.put_place.Tie as tie
 
 abbrev Inv-loop : tie.InvT-loop
 Inv-loop out₀ at place first i₀ out i =
-    (i ≤ first) × Left out₀ at (rightJustified 9 (decimal place)) out i (replicate (first - i) 32 ++ decimal place)
+    (i ≤ first) × Unwritten out₀ at (rightJustified 9 (decimal place)) out i (replicate (first - i) 32 ++ decimal place)
 
 abbrev μ-loop : tie.MeasureT-loop
 μ-loop out₀ at place first i₀ out i = first - i
@@ -49,10 +49,14 @@ put-decimal-requires c κs =
     let d = c .before .before .before .digits in
     (s .pre .0, omega (arith, s .pre .1, k .inv .0, k .inv .1 .same, d .ensures .0, d .ensures .2))
 
+-- the entry, from the end
+abbrev entry : tie.After-slice-known2 Inv-loop μ-loop → tie.Start Inv-loop μ-loop
+entry c = c .before .before .before .before .before .before .before .before
+
 -- behind the digits nothing is left
 finished : (c : tie.After-slice-known2 Inv-loop μ-loop)
-    → let s = c .before .before .before .before .before .before .before .before in
-    Left (s .args .out .now) (s .args .at) (rightJustified 9 (decimal (s .args .place))) (c .before .before .put-decimal .last .0) (c .before .before .put-decimal .result) []
+    → let s = entry c in
+    Unwritten (s .args .out .now) (s .args .at) (rightJustified 9 (decimal (s .args .place))) (c .before .before .put-decimal .last .0) (c .before .before .put-decimal .result) []
 finished c =
     let called = c .before .before in
     let looped = called .before .before in
@@ -65,7 +69,7 @@ same-length c = finished c .same
 
 returns : tie.Need-returns Inv-loop μ-loop
 returns c =
-    let s = c .before .before .before .before .before .before .before .before in
+    let s = entry c in
     let whole = none-left (finished c) in
     (whole .0, whole .1 ∙ ap (λ (n : ℕ). s .args .at + n) (place-size (s .args .place) (omega (arith, s .pre .0))))
 

@@ -5,9 +5,8 @@ use mathlib.Core.Path.{_≡_}
 use borrow.Author.Needs.{needs}
 use lib.ListN.{take, drop}
 use Rattle.store.specs.Layout.{lettersIn}
-use Rattle.walk.proofs.Stores.{framed-within}
+use Rattle.walk.proofs.Stores.{framed-part, framed-within}
 use Rattle.outcome.proofs.Fits.{few}
-use Rattle.genbank_call.proofs.Printing.{letters-are}
 use Rattle.genbank_call.proofs.write_page.Statement.{statement}
 use Rattle.genbank_call.proofs.write_page.Tie as tie
 
@@ -19,7 +18,7 @@ handed : (c : tie.After-frame-of)
     → let f = c .frame-of .result in
     let b = c .before .before .before .args .b .now in
     take (f .base + f .n - f .base) (drop (f .base) b) ≡ lettersIn b
-handed c = letters-are (c .frame-of .ensures)
+handed c = framed-part (c .frame-of .ensures)
 
 put-page-requires : tie.Need-put-page-requires
 put-page-requires c κs =
