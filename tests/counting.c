@@ -5,32 +5,20 @@
  * higher ones, in either reading. Rows without a repeat are refused, whatever the number; no byte of a store may change.
  * Usage: counting [seed] */
 #include "brute.h"
+#include "followed.h"
 #include "guard.h"
 #include "mirror.h"
 #include "random.h"
 #include <stdio.h>
-#include <stdlib.h>
 #include <string.h>
 
-enum { MOST = 1024, SHORT = 6, STORE_SLOT = 0 };
+enum { MOST = FOLLOWED_MOST, SHORT = 6 };
 enum { AT_THE_RIGHT, AT_THE_LEFT, BEHIND_OTHERS, TURNED, WAYS };
 
 static const unsigned char others[] = "GCGCT";
-static uint8_t *store, kept[MIRROR_STORE_SIZE(MOST)];
-static unsigned reading;
+static uint8_t kept[MIRROR_STORE_SIZE(MOST)];
 static const unsigned char *rule;
-static unsigned char letters[MOST];
-static size_t size, capacity, length;
 static unsigned long records, rows, free_rows, upward[READINGS], most;
-
-static void must(const char *what, uint64_t wanted, uint64_t got)
-{
-    if (wanted == got) return;
-    printf("%s record %.*s%s (%zu letters, capacity %zu): %s: wanted %llx, got %llx\n", reading == PLAIN ? "plain" : "inverted",
-           (int)(size < 60 ? size : 60), (char *)letters, size < 60 ? "" : "..", size, capacity, what, (unsigned long long)wanted,
-           (unsigned long long)got);
-    exit(1);
-}
 
 /* ---- one record */
 
@@ -39,11 +27,11 @@ static void must(const char *what, uint64_t wanted, uint64_t got)
 static size_t ask_row(uint64_t row)
 {
     uint8_t word[MOST];
-    size_t n = mirror_first(mirror_spell(store, length, row, word, sizeof word)), first, places = 0;
-    if (n > 0) places = brute_places(word, n, letters, size, &first);
+    size_t n = mirror_first(mirror_spell(record.store, record.length, row, word, sizeof word)), first, places = 0;
+    if (n > 0) places = brute_places(word, n, record.letters, record.size, &first);
     must("what a row spells stands", n > 0, places > 0);
-    must("frequency", n > 0 ? (uint64_t)places << 32 : MIRROR_NO_PLACE, mirror_frequency(store, length, row));
-    upward[reading] += n > 0 && mirror_row_of(mirror_row(store, length, row)) > row;
+    must("frequency", n > 0 ? (uint64_t)places << 32 : MIRROR_NO_PLACE, mirror_frequency(record.store, record.length, row));
+    upward[record.reading] += n > 0 && mirror_row_of(mirror_row(record.store, record.length, row)) > row;
     rows += n > 0;
     free_rows += n == 0;
     return places;
@@ -53,63 +41,33 @@ static size_t ask_row(uint64_t row)
 static void ask_all(void)
 {
     static const uint64_t far[] = {(1ull << 16) + 2, (1ull << 32) + 2, (1ull << 63) + 2, UINT64_MAX};
-    uint64_t by_rows = 0, by_ends = brute_by_ends(rule, letters, size);
-    memcpy(kept, store, length);
-    for (uint64_t row = 0; row < capacity + 4; row++) by_rows += ask_row(row);
+    uint64_t by_rows = 0, by_ends = brute_by_ends(rule, record.letters, record.size);
+    memcpy(kept, record.store, record.length);
+    for (uint64_t row = 0; row < record.capacity + 4; row++) by_rows += ask_row(row);
     for (size_t i = 0; i < sizeof far / sizeof far[0]; i++) ask_row(far[i]);
-    uint64_t answer = mirror_occurrences(store, length);
+    uint64_t answer = mirror_occurrences(record.store, record.length);
     must("all places, summed over the rows", by_rows, mirror_by_rows(answer));
-    must("all places, summed over the words", brute_by_words(rule, letters, size), mirror_by_rows(answer));
+    must("all places, summed over the words", brute_by_words(rule, record.letters, record.size), mirror_by_rows(answer));
     must("all places, summed over the right ends", by_ends, mirror_by_ends(answer));
     must("the bytes below the sums", 0, answer & 0xffff);
-    must("a byte of the store changed", 0, memcmp(store, kept, length) != 0);
+    must("a byte of the store changed", 0, memcmp(record.store, kept, record.length) != 0);
     records++;
     if (by_ends > most) most = by_ends;
 }
 
 /* ---- changes */
 
-static void done(uint64_t answer)
-{
-    must("a change is refused", 0, mirror_refusal(answer));
-}
-
-static void read_so(unsigned now)
-{
-    reading = now;
-    rule = brute_rule(reading);
-}
-
-static void open_record(unsigned opened, size_t wanted)
+static void open_record(unsigned reading, size_t capacity)
 {
     guard_at(records % 2 ? GUARD_BEFORE : GUARD_AFTER);
-    read_so(opened);
-    size = 0;
-    capacity = wanted;
-    length = MIRROR_STORE_SIZE(capacity);
-    store = guard_room(STORE_SLOT, length);
-    done((reading == PLAIN ? mirror_open : mirror_open_inverted)(store, length, capacity));
-}
-
-static void join(int left, unsigned char letter)
-{
-    memmove(letters + left, letters, size);
-    letters[left ? 0 : size] = letter;
-    size++;
-    done((left ? mirror_add_left : mirror_add_right)(store, length, letter));
-}
-
-static void leave(int left)
-{
-    size--;
-    memmove(letters, letters + left, size);
-    done((left ? mirror_remove_left : mirror_remove_right)(store, length));
+    followed_open(reading, capacity);
+    rule = brute_rule(reading);
 }
 
 static void turn(void)
 {
-    read_so(reading == PLAIN ? INVERTED : PLAIN);
-    done((reading == PLAIN ? mirror_turn_plain : mirror_turn_inverted)(store, length));
+    followed_turn();
+    rule = brute_rule(record.reading);
 }
 
 /* the word as a record that is read so; each way gives its repeats the rows in another order, and behind letters that go again
@@ -118,9 +76,9 @@ static void make_record(unsigned wanted, const unsigned char *word, size_t n, in
 {
     size_t before = way == BEHIND_OTHERS ? sizeof others - 1 : 0, room = n + before < MOST ? n + before + 1 : MOST;
     open_record(way == TURNED ? !wanted : wanted, room);
-    for (size_t i = 0; i < before; i++) join(0, others[i]);
-    for (size_t i = 0; i < n; i++) join(way == AT_THE_LEFT, word[way == AT_THE_LEFT ? n - 1 - i : i]);
-    for (size_t i = 0; i < before; i++) leave(1);
+    for (size_t i = 0; i < before; i++) followed_join(0, others[i]);
+    for (size_t i = 0; i < n; i++) followed_join(way == AT_THE_LEFT, word[way == AT_THE_LEFT ? n - 1 - i : i]);
+    for (size_t i = 0; i < before; i++) followed_leave(1);
     if (way == TURNED) turn();
 }
 
@@ -149,13 +107,13 @@ static void moving_record(unsigned wanted)
         unsigned char letter = (unsigned char)"ATCG"[random_below(alphabet)];
         if (random_below(12) == 0) left = !left;
         if (random_below(40) == 0) turn();
-        if (size > 0 && random_below(4) == 0) letter = rule[letters[left ? size - 1 : 0]];
-        if (size == capacity || (size > 0 && random_below(6) == 0)) leave(!left);
-        join((int)left, letter);
+        if (record.size > 0 && random_below(4) == 0) letter = rule[record.letters[left ? record.size - 1 : 0]];
+        if (record.size == record.capacity || (record.size > 0 && random_below(6) == 0)) followed_leave(!left);
+        followed_join((int)left, letter);
         ask_all();
     }
-    while (size > 0) {
-        leave((int)random_below(2));
+    while (record.size > 0) {
+        followed_leave((int)random_below(2));
         ask_all();
     }
 }
@@ -215,7 +173,7 @@ int main(int argc, char **argv)
         for (int i = 0; i < 200; i++) moving_record(wanted);
         long_words(wanted);
     }
-    for (reading = PLAIN; reading < READINGS; reading++) must("rows that link to higher ones", 1, upward[reading] > 0);
+    for (record.reading = PLAIN; record.reading < READINGS; record.reading++) must("rows that link to higher ones", 1, upward[record.reading] > 0);
     must("the most places that a record can have", MOST * (MOST + 1) / 2, most);
     printf("%lu records, with at most %lu places: %lu rows counted, of which %lu and %lu link to higher ones, %lu rows without a repeat refused\n", records,
            most, rows, upward[PLAIN], upward[INVERTED], free_rows);

@@ -7,6 +7,7 @@
  * page of a record that is turned is the same; no byte of a store may change; what is not good is 3, whatever the room. The
  * buffers end at a guard page or begin right after one. Usage: printing [seed] */
 #include "brute.h"
+#include "followed.h"
 #include "guard.h"
 #include "layout.h"
 #include "mirror.h"
@@ -14,67 +15,28 @@
 #include "second_page.h"
 #include <ctype.h>
 #include <stdio.h>
-#include <stdlib.h>
 #include <string.h>
 
-enum { MOST = LAYOUT_MOST, SHORT = 130, FROM_NONE = 12, ABOUT = 12, OTHERS = 7, STORE_SLOT = 0, OUT_SLOT };
+enum { MOST = LAYOUT_MOST, SHORT = 130, FROM_NONE = 12, ABOUT = 12, OTHERS = 7, OUT_SLOT = FOLLOWED_SLOT + 1 };
 enum { AT_THE_RIGHT, AT_THE_LEFT, AT_BOTH_ENDS, BETWEEN_OTHERS, WAYS };
 
 static const uint8_t fillings[] = {' ', '\n', 0, '1', 'a', 'T', '/', 0xff};
-static uint8_t *store, *out, kept[MIRROR_STORE_SIZE(MOST)];
-static unsigned reading;
-static unsigned char letters[MOST];
-static size_t size, capacity, length;
+static uint8_t *out, kept[MIRROR_STORE_SIZE(MOST)];
 static char page[SECOND_PAGE_ROOM]; /* of these letters, by the second writer */
 static size_t need;
 static unsigned long pages, refused, damaged, read_back, turned;
 
-static void must(const char *what, uint64_t wanted, uint64_t got)
-{
-    if (wanted == got) return;
-    printf("%s record %.*s%s (%zu letters, capacity %zu): %s: wanted %llx, got %llx\n", reading == PLAIN ? "plain" : "inverted",
-           (int)(size < 60 ? size : 60), (char *)letters, size < 60 ? "" : "..", size, capacity, what, (unsigned long long)wanted,
-           (unsigned long long)got);
-    exit(1);
-}
-
 /* ---- one record */
 
-static void done(uint64_t answer)
-{
-    must("a change is refused", 0, mirror_refusal(answer));
-}
-
-static void open_record(unsigned wanted, size_t room)
-{
-    reading = wanted;
-    size = 0;
-    capacity = room;
-    length = MIRROR_STORE_SIZE(capacity);
-    store = guard_room(STORE_SLOT, length);
-    done((reading == PLAIN ? mirror_open : mirror_open_inverted)(store, length, capacity));
-}
-
+/* a random letter at an end */
 static void join(int left)
 {
-    unsigned char letter = (unsigned char)"ACGT"[random_below(4)];
-    memmove(letters + left, letters, size);
-    letters[left ? 0 : size] = letter;
-    size++;
-    done((left ? mirror_add_left : mirror_add_right)(store, length, letter));
-}
-
-static void leave(int left)
-{
-    size--;
-    memmove(letters, letters + left, size);
-    done((left ? mirror_remove_left : mirror_remove_right)(store, length));
+    followed_join(left, (unsigned char)"ACGT"[random_below(4)]);
 }
 
 static void turn(void)
 {
-    reading = reading == PLAIN ? INVERTED : PLAIN;
-    done((reading == PLAIN ? mirror_turn_plain : mirror_turn_inverted)(store, length));
+    followed_turn();
     turned++;
 }
 
@@ -82,9 +44,9 @@ static void turn(void)
 static void make_record(unsigned wanted, size_t n, int way, int turns)
 {
     size_t others = way == BETWEEN_OTHERS && n + 2 * OTHERS <= MOST ? OTHERS : 0;
-    open_record(turns ? !wanted : wanted, n + 2 * others + (n < MOST));
+    followed_open(turns ? !wanted : wanted, n + 2 * others + (n < MOST));
     for (size_t i = 0; i < n + 2 * others; i++) join(way == AT_THE_LEFT || (way != AT_THE_RIGHT && random_below(2)));
-    for (size_t i = 0; i < 2 * others; i++) leave(i % 2 == 0);
+    for (size_t i = 0; i < 2 * others; i++) followed_leave(i % 2 == 0);
     if (turns) turn();
 }
 
@@ -96,7 +58,7 @@ static int print(size_t room, uint8_t value)
     int fits = room >= need;
     out = guard_room(OUT_SLOT, room);
     memset(out, value, room);
-    must("the answer", fits ? (uint64_t)need << 32 : MIRROR_NO_ROOM, mirror_genbank(store, length, out, room));
+    must("the answer", fits ? (uint64_t)need << 32 : MIRROR_NO_ROOM, mirror_genbank(record.store, record.length, out, room));
     must("a byte of the page differs", 0, fits && memcmp(out, page, need) != 0);
     for (size_t i = fits ? need : 0; i < room; i++) must(fits ? "a byte behind the page" : "a byte after a refusal", value, out[i]);
     pages += (unsigned long)fits;
@@ -107,14 +69,14 @@ static int print(size_t room, uint8_t value)
 /* the page of the letters that the record must have now */
 static void choose_page(void)
 {
-    need = second_page(letters, size, page);
-    must("the length by the header", need, MIRROR_GENBANK_SIZE(size));
-    memcpy(kept, store, length);
+    need = second_page(record.letters, record.size, page);
+    must("the length by the header", need, MIRROR_GENBANK_SIZE(record.size));
+    memcpy(kept, record.store, record.length);
 }
 
 static void store_stays(void)
 {
-    must("a byte of the store changed", 0, memcmp(store, kept, length) != 0);
+    must("a byte of the store changed", 0, memcmp(record.store, kept, record.length) != 0);
 }
 
 /* One line, column by column: nine for the place of its first letter, then in each eleventh column, from the first behind them
@@ -131,11 +93,11 @@ static const uint8_t *read_line(const uint8_t *line, size_t first)
     must("the place of a line's first letter", first + 1, place);
     for (; line[column] != '\n'; column++) {
         int blank = (column - 9) % 11 == 0;
-        must("a line goes on behind the letters", 1, at < size && at < first + 60);
-        must("a column", blank ? ' ' : (uint64_t)tolower((int)mirror_first(mirror_letter(store, length, at))), line[column]);
+        must("a line goes on behind the letters", 1, at < record.size && at < first + 60);
+        must("a column", blank ? ' ' : (uint64_t)tolower((int)mirror_first(mirror_letter(record.store, record.length, at))), line[column]);
         at += !blank;
     }
-    must("a line ends before the letters do", 1, at == size || at == first + 60);
+    must("a line ends before the letters do", 1, at == record.size || at == first + 60);
     return line + column + 1;
 }
 
@@ -145,7 +107,7 @@ static void read_page(void)
     const uint8_t *line = out;
     must("the first line", 0, memcmp(line, "ORIGIN\n", 7) != 0);
     line += 7;
-    for (size_t first = 0; first < size; first += 60) line = read_line(line, first);
+    for (size_t first = 0; first < record.size; first += 60) line = read_line(line, first);
     must("the last line", 0, memcmp(line, "//\n", 3) != 0);
     must("the page's length", need, (uint64_t)(line + 3 - out));
     read_back++;
@@ -154,8 +116,8 @@ static void read_page(void)
 /* every room about the need, or from none on; those that are enough are more than the values, so each value lies under a page */
 static void every_room(void)
 {
-    size_t from = need > ABOUT && size > FROM_NONE ? need - ABOUT : 0;
-    for (size_t room = from; room <= need + ABOUT; room++) print(room, fillings[(room + size) % sizeof fillings]);
+    size_t from = need > ABOUT && record.size > FROM_NONE ? need - ABOUT : 0;
+    for (size_t room = from; room <= need + ABOUT; room++) print(room, fillings[(room + record.size) % sizeof fillings]);
     store_stays();
 }
 
@@ -164,7 +126,7 @@ static void either_reading(void)
 {
     for (int i = 0; i < 2; i++) {
         turn();
-        memcpy(kept, store, length);
+        memcpy(kept, record.store, record.length);
         for (size_t room = need - 1; room <= need + 1; room++) print(room, fillings[(room + (size_t)i) % sizeof fillings]);
         store_stays();
     }
@@ -177,7 +139,7 @@ static void not_good(const char *what)
     for (size_t i = 0; i < sizeof rooms / sizeof rooms[0]; i++) {
         out = guard_room(OUT_SLOT, rooms[i]);
         memset(out, 'x', rooms[i]);
-        must(what, MIRROR_DAMAGED, mirror_genbank(store, length, out, rooms[i]));
+        must(what, MIRROR_DAMAGED, mirror_genbank(record.store, record.length, out, rooms[i]));
         for (size_t k = 0; k < rooms[i]; k++) must("a byte of what is not good", 'x', out[k]);
         damaged++;
     }
@@ -186,18 +148,18 @@ static void not_good(const char *what)
 /* a letter that is none, a small one, a reading that is none, a byte too few */
 static void damage(void)
 {
-    uint8_t *letter = store + layout_letters(capacity) + size / 2, was = *letter;
-    for (const char *other = "Nacgt "; size > 0 && *other; other++) {
+    uint8_t *letter = record.store + layout_letters(record.capacity) + record.size / 2, was = *letter;
+    for (const char *other = "Nacgt "; record.size > 0 && *other; other++) {
         *letter = (uint8_t)*other;
         not_good("a letter that is none");
     }
     *letter = was;
-    layout_put(store, 0, CELL_READING, READINGS);
+    layout_put(record.store, 0, CELL_READING, READINGS);
     not_good("a reading that is none");
-    layout_put(store, 0, CELL_READING, reading);
-    length--;
+    layout_put(record.store, 0, CELL_READING, record.reading);
+    record.length--;
     not_good("a store too short");
-    length++;
+    record.length++;
     store_stays();
     must("it is good again", 1, (uint64_t)print(need, 'x'));
 }
@@ -220,7 +182,7 @@ static void one_record(unsigned wanted, size_t n, int way, int turns)
 static void moving_record(unsigned wanted, int way)
 {
     guard_at(way % 2 ? GUARD_BEFORE : GUARD_AFTER);
-    open_record(wanted, MOST);
+    followed_open(wanted, MOST);
     for (size_t i = 0; i <= 2 * MOST; i++) {
         choose_page();
         print(need, fillings[i % sizeof fillings]);
@@ -228,7 +190,7 @@ static void moving_record(unsigned wanted, int way)
         store_stays();
         int left = way == AT_THE_LEFT || (way == AT_BOTH_ENDS && random_below(2));
         if (i < MOST) join(left);
-        else if (size > 0) leave(left);
+        else if (record.size > 0) followed_leave(left);
     }
 }
 

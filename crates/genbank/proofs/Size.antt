@@ -12,14 +12,14 @@ use Rattle.palindromes.specs.Genbank.{lower, cut, groups, rightJustified, origi
 use Rattle.decimal.proofs.Decimal.{digits-below}
 use Rattle.genbank.proofs.Cut.{cut-none, cut-more, by-cut, parts}
 
--- a blank for each group, and the letters
+-- the first group behind its blank, then the others
 pub groups-more : (w : Word) → 0 < length w → groups (cut 10 w) ≡ (32 ∷ map lower (take 10 w)) ++ groups (cut 10 (drop 10 w))
 unfolding groups
 groups-more w h = rw (cut-more 9 w h) refl
 
+-- a blank for each group, and the letters
 pub groups-size : (w : Word) → length (groups (cut 10 w)) ≡ length w + (length w + 9) / 10
 groups-size = by-cut 9 (λ w. length (groups (cut 10 w)) ≡ length w + (length w + 9) / 10) (unfold groups in rw (cut-none 10) refl) λ w h ih.
-    let n : ℕ = length w in
     omega (
       arith,
       ap length (groups-more w h),
@@ -66,6 +66,7 @@ sixties n d h f = omega arith
 line-and-lines : (t d a b c l r : ℕ) {n p q x : ℕ} → x ≡ l + suc r → l ≡ 9 + t + a → r ≡ d + b + 10 * c → t + d ≡ n → a + b ≡ p → c + 1 ≡ q → x ≡ n + p + 10 * q
 line-and-lines t d a b c l r whole first later letters blanks lines = omega arith
 
+-- a line has nine columns and an LF beside its letters and their blanks
 pub lines-size : (w : Word) (place : ℕ) → place + 60 * ((length w + 59) / 60) < 1000000060
     → length (originLines place (cut 60 w)) ≡ length w + (length w + 9) / 10 + 10 * ((length w + 59) / 60)
 lines-size =
@@ -79,7 +80,7 @@ lines-size =
     line-and-lines _ _ _ _ _ _ _ (ap length (lines-more place w h) ∙ length-append line (10 ∷ later)) (line-size place (take 60 w) (omega arith)) (ih (place + 60) (omega (arith, lines))) (parts 60 w)
     (tens (length w) (length (take 60 w)) (length (drop 60 w)) (parts 60 w) (length-drop 60 w)) lines)
 
--- the page: seven bytes before its lines, and three behind them
+-- the page: seven bytes, then its lines and the last one
 pub page-parts : (s : Word) → length (genbank s) ≡ 7 + length (originLines 1 (cut 60 s) ++ originEnd)
 unfolding genbank originHead
 page-parts s = omega arith

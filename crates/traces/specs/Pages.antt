@@ -24,6 +24,7 @@ pub record Short (b : Word) (l : Lent) (a : ℕ) (b′ : Word) (l′ : Lent) : T
   pub store : b′ ≡ b
   pub bytes : l′ ≡ l
 
+-- one or the other, by the buffer's length; and 1,317 bytes are always enough
 pub record Pages (s b : Word) : Type 0 where
   pub most : length (genbank s) ≤ 1317
   pub printed : (l : Lent) (a : ℕ) (b′ : Word) (l′ : Lent) → Promise (ask page) b l a b′ l′ → length (genbank s) ≤ length (l .out) → Printed s b l a b′ l′
