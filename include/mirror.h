@@ -95,6 +95,11 @@ uint64_t mirror_list(const uint8_t *store, size_t length, const uint8_t *identif
  * number: sixty letters a line in lower case, behind the place of the line's first letter counted from 1. The page is the same
  * in either reading. It takes MIRROR_GENBANK_SIZE bytes for the letters now in the record; output beyond the page stays. */
 uint64_t mirror_genbank(const uint8_t *store, size_t length, uint8_t *out, size_t out_length);
+/* The minimal unique repeats: those that stand once only and whose inner stretch, the repeat without its first and last letter,
+ * is empty or stands at least twice. How many there are is the first number, never more than the record has letters. Where each
+ * stands goes to the front of `out`, by start: the place of its first letter and the place one past its last, two bytes each,
+ * low byte first. So it takes four bytes for each, and 4,096 are always room enough; output beyond them stays. */
+uint64_t mirror_minimal_unique(const uint8_t *store, size_t length, uint8_t *out, size_t out_length);
 /* Reads a FASTA text of any length; needs no store. The identifier stands behind the first `>`, and its length is the
  * first number; the letters go to the front of `out`, and how many is the second. 1,024 bytes are always room enough. In
  * the lines after the first a, c, g and t are read, and written, as A, C, G and T; additions and find take capitals only. */

@@ -13,7 +13,6 @@ use Rattle.palindromes.specs.Record.{suffixes}
 use Rattle.palindromes.specs.Node.{spelt, spellingOf}
 use Rattle.store.specs.Layout.{sizeIn, usedIn, linkIn, lettersIn}
 use Rattle.store.specs.Good.{ruleOf, nodeIn}
-use Rattle.walk.specs.Replay.{newAt, Holds}
 
 -- the numbers at the places that pass the test, added up
 unfoldable pub weigh : (ℕ → Bool) → List ℕ → ℕ
@@ -33,12 +32,6 @@ pub record HandedFrom (b : Word) (k : ℕ) (counts : Word) : Type 0 where
   pub long : length counts ≡ 1026
   pub waiting : (w : Word) → Palindrome (ruleOf b) w → Stands w (take k (lettersIn b)) → weigh (openWith b k w) counts ≡ frequency w (lettersIn b)
   pub done : (r : ℕ) (w : Word) → usedIn b r ≡ true → 2 ≤ r → nodeIn b r ≡ spelt w → stands w (take k (lettersIn b)) ≡ false → getD counts r 0 ≡ frequency w (lettersIn b)
-
--- at each right end stands the row that is first met there, and a root's where none is
-pub record FirstRows (b firsts : Word) : Type 0 where
-  pub long : sizeIn b ≤ length firsts
-  pub new : (k : ℕ) → k < sizeIn b → newAt b k ≡ true → Holds b (k + 1) (getD firsts k 0)
-  pub old : (k : ℕ) → k < sizeIn b → newAt b k ≡ false → getD firsts k 0 < 2
 
 -- row r can be handed on
 pub record Handable (b counts : Word) (r : ℕ) : Type 0 where

@@ -1,4 +1,4 @@
--- What printing a record promises, on plain values. Rests on `Refusals`, `Promises` and `Fits` of the outcomes.
+-- What printing a record promises, on plain values. Rests on `Questions`, `Promises` and `Fits` of the outcomes.
 use Prim.Native.Nat.{ℕ, _≤_, _<_}
 use native.Mathlib.Omega.{arith}
 use mathlib.Core.Path.{_≡_, refl, sym, ap, _∙_}
@@ -15,16 +15,16 @@ use Rattle.outcome.specs.Reply.{packed, accepted}
 use Rattle.outcome.specs.Outcome.{viewIn, acceptedOutcome, answerTo, lentAfter, written}
 use Rattle.outcome.specs.Promise.{Promise, lending}
 use Rattle.outcome.specs.Verdict.{Verdict, judged}
-use Rattle.outcome.proofs.Refusals.{page-short, page-accepted, page-room}
 use Rattle.outcome.proofs.Promises.{cleared, carried}
 use Rattle.outcome.proofs.Fits.{answer-fits}
+use Rattle.outcome.proofs.Questions.{page-writing, too-short, long-enough, room}
 
 module _ (b : Word) (g : Good b) (out : Word) where
-  pub too-short : {n : ℕ} → n ≡ length (genbank (lettersIn b)) → length out < n → Verdict (ask page) b (lending [] out) 9
-  too-short e l = judged g (sym (page-short b (lending [] out) (omega (arith, e, l))))
+  pub no-room : {n : ℕ} → n ≡ length (genbank (lettersIn b)) → length out < n → Verdict (ask page) b (lending [] out) 9
+  no-room e l = judged g (sym (too-short (page-writing b) (lending [] out) (omega (arith, e, l))))
 
   pub can-print : {n : ℕ} → n ≡ length (genbank (lettersIn b)) → n ≤ length out → Verdict (ask page) b (lending [] out) 0
-  can-print e l = judged g (sym (page-accepted b (lending [] out) (omega (arith, e, l))))
+  can-print e l = judged g (sym (long-enough (page-writing b) (lending [] out) (omega (arith, e, l))))
 
 -- what a verdict of 0 tells
 pub record Printable (b out : Word) : Type 0 where
@@ -35,7 +35,7 @@ pub record Printable (b out : Word) : Type 0 where
 pub printable : (b out : Word) (n : ℕ) → Verdict (ask page) b (lending [] out) n → n ≡ 0 → Printable b out
 printable b out n v z =
     let h = cleared (ask page) b (lending [] out) n v z in
-    record { good = h .0; room = page-room b (lending [] out) (h .1); clear = h .1 }
+    record { good = h .0; room = room (page-writing b) (lending [] out) (h .1); clear = h .1 }
 
 -- the page's length fits its two bytes
 pub page-packs : (b out : Word) {n : ℕ} → Printable b out → n ≡ length (genbank (lettersIn b)) → (0 < 65536) × (n < 65536) × (0 < 65536)

@@ -3,7 +3,7 @@
 ghost use Rattle.palindromes.specs.Reading.{asPlain, asInverted};
 ghost use Rattle.palindromes.specs.End.{atLeft, atRight};
 ghost use mathlib.Core.List.{[]};
-ghost use Rattle.palindromes.specs.Refusal.{add, remove, turn, theLength, theCount, theLongest, theLongestLength, theLongestAt, theLetter, theRow, theFrequency, theOccurrences, spell, find, list, page};
+ghost use Rattle.palindromes.specs.Refusal.{add, remove, turn, theLength, theCount, theLongest, theLongestLength, theLongestAt, theLetter, theRow, theFrequency, theOccurrences, spell, find, list, page, theMinimalUnique};
 ghost use Rattle.fasta_call.specs.Answer.{FastaPromise};
 ghost use Rattle.outcome.specs.Promise.{lending, nothing, Promise, OpeningPromise, FreeRow, Asked};
 
@@ -188,6 +188,14 @@ pub extern "C" fn mirror_genbank(store: &[u8], out: &mut [u8]) -> u64
     ensures { λ r. ⌜ Asked page (now (store .entry)) (lending [] (now (out .entry))) r (lending [] (now (out .exit))) ⌝ }
 {
     genbank_call::print_record(store, out)
+}
+
+// Lists where the minimal unique repeats stand.
+#[no_mangle]
+pub extern "C" fn mirror_minimal_unique(store: &[u8], out: &mut [u8]) -> u64
+    ensures { λ r. ⌜ Asked theMinimalUnique (now (store .entry)) (lending [] (now (out .entry))) r (lending [] (now (out .exit))) ⌝ }
+{
+    minimal_unique_call::list_minimal_unique(store, out)
 }
 
 // Reads a FASTA text: the identifier's length and the number of letters, which go to the buffer.

@@ -4,3 +4,4 @@ pub mod Inverted
 pub mod Searches
 pub mod Mismatches
 pub mod Pages
+pub mod MinimalUnique

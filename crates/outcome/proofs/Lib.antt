@@ -8,3 +8,5 @@ pub mod Fits
 pub mod Told
 pub mod LongestLength
 pub mod Occurrences
+-- one law for every question
+pub mod Questions

@@ -13,8 +13,7 @@ use Rattle.palindromes.specs.Reading.{Reading}
 use Rattle.palindromes.specs.End.{End}
 use Rattle.palindromes.specs.Node.{spellingOf}
 use Rattle.palindromes.specs.Bed.{isIdentifier, listing}
-use Rattle.palindromes.specs.Genbank.{genbank}
-use Rattle.palindromes.specs.Refusal.{Question, theLength, theCount, theLongest, theLongestLength, theOccurrences, page, theLongestAt, theLetter, theRow, theFrequency, spell, find, list, View, questionFaults, Call, opening, add, remove, turn, ask, fault, firstFault, isFree, spellingLength, storeSize, scratchSize, faults, refusal}
+use Rattle.palindromes.specs.Refusal.{Question, theLength, theCount, theLongest, theLongestLength, theOccurrences, page, theMinimalUnique, theLongestAt, theLetter, theRow, theFrequency, spell, find, list, View, questionFaults, Call, opening, add, remove, turn, ask, fault, firstFault, isFree, spellingLength, storeSize, scratchSize, faults, refusal}
 use Rattle.palindromes.proofs.Tests.{both-true, false-not-true, non-empty-is}
 use Rattle.store.specs.Layout.{capacityIn, usedIn, lettersIn}
 use Rattle.store.specs.Good.{ruleOf, nodeIn}
@@ -60,6 +59,7 @@ question-numbers σ v theLongest = (row 6 _ refl, tt)
 question-numbers σ v theLongestLength = tt
 question-numbers σ v theOccurrences = tt
 question-numbers σ v page = (row 9 _ refl, tt)
+question-numbers σ v theMinimalUnique = (row 9 _ refl, tt)
 question-numbers σ v (theLongestAt e) = (row 6 _ refl, tt)
 question-numbers σ v (theLetter i) = (row 7 _ refl, tt)
 question-numbers σ v (theRow r) = (row 7 _ refl, tt)
@@ -184,14 +184,6 @@ module _ (b : Word) (l : Lent) where
   unfolding refusal faults questionFaults viewIn firstFault fault isFree spellingLength
   spell-accepted r h k = rw (h, le-ltb (length (l .out)) (length (spellingOf (nodeIn b r))) k)
 
-  pub page-short : length (l .out) < length (genbank (lettersIn b)) → refusal (ruleOf b) (viewIn b l) (ask page) ≡ 9
-  unfolding refusal faults questionFaults viewIn firstFault fault
-  page-short k = rw (lt-ltb (length (l .out)) (length (genbank (lettersIn b))) k)
-
-  pub page-accepted : length (genbank (lettersIn b)) ≤ length (l .out) → refusal (ruleOf b) (viewIn b l) (ask page) ≡ 0
-  unfolding refusal faults questionFaults viewIn firstFault fault
-  page-accepted k = rw (le-ltb (length (l .out)) (length (genbank (lettersIn b))) k)
-
   pub find-empty : (w : Word) → w ≡ [] → refusal (ruleOf b) (viewIn b l) (ask (find w)) ≡ 8
   unfolding refusal faults questionFaults viewIn firstFault fault isEmpty
   find-empty w h = rw h
@@ -257,13 +249,6 @@ module _ (b : Word) (l : Lent) where
 
   pub spell-used : (r : ℕ) → refusal (ruleOf b) (viewIn b l) (ask (spell r)) ≡ 0 → usedIn b r ≡ true
   spell-used r z = not-false-true (usedIn b r) (λ h. omega (arith, spell-free r h))
-
-  pub page-room : refusal (ruleOf b) (viewIn b l) (ask page) ≡ 0 → length (genbank (lettersIn b)) ≤ length (l .out)
-  page-room z = go (decLt (length (l .out)) (length (genbank (lettersIn b))))
-    where
-      go : Dec (length (l .out) < length (genbank (lettersIn b))) → length (genbank (lettersIn b)) ≤ length (l .out)
-      go (yes h) = absurd (omega (arith, page-short h))
-      go (no h) = omega arith
 
   pub list-named : (name : Word) → refusal (ruleOf b) (viewIn b l) (ask (list name)) ≡ 0 → isIdentifier name ≡ true
   list-named name z = not-false-true (isIdentifier name) (λ h. omega (arith, list-name name h))

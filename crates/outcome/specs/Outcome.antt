@@ -12,10 +12,12 @@ use Rattle.palindromes.specs.Place.{frequency, standsOnce}
 use Rattle.palindromes.specs.Record.{palindromes, count, longestLength, longestPlace}
 use Rattle.palindromes.specs.Occurrences.{occurrencesByRow, occurrencesByEnd}
 use Rattle.palindromes.specs.End.{letterAt}
+use Rattle.palindromes.specs.Interval.{intervalBytes}
+use Rattle.palindromes.specs.MinimalUnique.{minimalUnique}
 use Rattle.palindromes.specs.Node.{spelt, lengthOf, linkOf, innerOf, spellingOf}
 use Rattle.palindromes.specs.Bed.{listing}
 use Rattle.palindromes.specs.Genbank.{genbank}
-use Rattle.palindromes.specs.Refusal.{Question, theLength, theCount, theLongest, theLongestLength, theOccurrences, page, theLongestAt, theLetter, theRow, theFrequency, spell, find, list, Call, opening, add, remove, turn, ask, View, scratchSize, refusal}
+use Rattle.palindromes.specs.Refusal.{Question, theLength, theCount, theLongest, theLongestLength, theOccurrences, page, theMinimalUnique, theLongestAt, theLetter, theRow, theFrequency, spell, find, list, Call, opening, add, remove, turn, ask, View, scratchSize, refusal}
 use Rattle.palindromes.specs.SearchSteps.{reportedSteps}
 use Rattle.store.specs.Layout.{capacityIn, readingIn, usedIn, lettersIn}
 use Rattle.store.specs.Good.{ruleOf, nodeIn, Good}
@@ -72,6 +74,7 @@ answerTo theLongest b = answer false 0 (longestLength (ruleOf b) (lettersIn b)) 
 answerTo theLongestLength b = answer false 0 (longestLength (ruleOf b) (lettersIn b)) 0
 answerTo theOccurrences b = wideAnswer (occurrencesByRow (ruleOf b) (lettersIn b)) (occurrencesByEnd (ruleOf b) (lettersIn b))
 answerTo page b = answer false 0 (length (genbank (lettersIn b))) 0
+answerTo theMinimalUnique b = answer false 0 (length (minimalUnique (ruleOf b) (lettersIn b))) 0
 answerTo (theLongestAt e) b = answer (standsOnce (longestBefore e b) (lettersIn b)) (rowOf b (spelt (longestBefore e b))) 0 0
 answerTo (theLetter i) b = answer false 0 (getD (lettersIn b) i 0) 0
 answerTo (theRow r) b = answer false (rowOf b (linkOf (ruleOf b) (nodeIn b r))) (twosComplement (lengthOf (nodeIn b r))) (rowOf b (innerOf (nodeIn b r)))
@@ -88,6 +91,7 @@ lentAfter theLongest b l = l
 lentAfter theLongestLength b l = l
 lentAfter theOccurrences b l = l
 lentAfter page b l = record { scratch = l .scratch; out = written (genbank (lettersIn b)) (l .out) }
+lentAfter theMinimalUnique b l = record { scratch = l .scratch; out = written (intervalBytes (minimalUnique (ruleOf b) (lettersIn b))) (l .out) }
 lentAfter (theLongestAt e) b l = l
 lentAfter (theLetter i) b l = l
 lentAfter (theRow r) b l = l

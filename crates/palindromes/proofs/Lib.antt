@@ -15,6 +15,9 @@ pub mod Palindromes
 pub mod Occurrences
 pub mod NewIn
 pub mod Order
+pub mod Intervals
+pub mod MinimalUnique
+pub mod MinimalUniqueList
 pub mod Across
 pub mod Answers
 pub mod Lengths

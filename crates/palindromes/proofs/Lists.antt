@@ -5,7 +5,7 @@ use native.Mathlib.Omega.{arith}
 use mathlib.Core.Path.{_≡_, refl, sym, ap, _∙_, subst}
 use mathlib.Core.Bool.{Bool, true, false, not, cond, _&&_, _||_, and-false, and-true}
 use mathlib.Core.Logic.{_⊎_, inl, inr, ⊎-elim}
-use mathlib.Core.List.{List, [], _∷_, _++_, List·Memᴰ, List·Memᴰ·head, List·Memᴰ·tail}
+use mathlib.Core.List.{List, [], _∷_, _++_, List·Memᴰ, List·Memᴰ·head, List·Memᴰ·tail, List·Memᴰ·not-nil, List·Memᴰ·cases-cons}
 use lib.ListN.{length}
 use Rattle.palindromes.specs.Word.{Word, sameWord, member, keep, distinct}
 use Rattle.palindromes.proofs.Tests.{both-are, not-true-false, false-not-true, same-true, same-refl}
@@ -92,18 +92,38 @@ member-length w l m = in-length (member-true w l m)
 
 -- ---- sifting
 
--- word by word
-pub keep-nil : (p : Word → Bool) → keep p [] ≡ []
+-- one by one, in lists of any kind
+pub keep-nil : {A : Type 0} (p : A → Bool) → keep p [] ≡ []
 unfolding keep
 keep-nil p = refl
 
-pub keep-pass : (p : Word → Bool) (w : Word) (l : List Word) → p w ≡ true → keep p (w ∷ l) ≡ w ∷ keep p l
+pub keep-pass : {A : Type 0} (p : A → Bool) (w : A) (l : List A) → p w ≡ true → keep p (w ∷ l) ≡ w ∷ keep p l
 unfolding keep
 keep-pass p w l e = ap (λ (b : Bool). cond b (w ∷ keep p l) (keep p l)) e
 
-pub keep-skip : (p : Word → Bool) (w : Word) (l : List Word) → p w ≡ false → keep p (w ∷ l) ≡ keep p l
+pub keep-skip : {A : Type 0} (p : A → Bool) (w : A) (l : List A) → p w ≡ false → keep p (w ∷ l) ≡ keep p l
 unfolding keep
 keep-skip p w l e = ap (λ (b : Bool). cond b (w ∷ keep p l) (keep p l)) e
+
+-- what is kept is in the list and passes the test, and the other way round
+pub of-keep : {A : Type 0} (p : A → Bool) (l : List A) {x : A} → List·Memᴰ x (keep p l) → List·Memᴰ x l × (p x ≡ true)
+of-keep p [] m = absurd (List·Memᴰ·not-nil (rw (keep-nil p) at m))
+of-keep {A} p (w ∷ l) {x} m = go (of-keep p l) (p w) refl m
+  where
+    go : (List·Memᴰ x (keep p l) → List·Memᴰ x l × (p x ≡ true)) → (t : Bool) → p w ≡ t → List·Memᴰ x (keep p (w ∷ l)) → List·Memᴰ x (w ∷ l) × (p x ≡ true)
+    go ih true e m =
+        ⊎-elim (λ i. (List·Memᴰ·head i, rw i e)) (λ i. (List·Memᴰ·tail (ih i .0), ih i .1)) (List·Memᴰ·cases-cons (rw (keep-pass p w l e) at m))
+    go ih false e m = let i = ih (rw (keep-skip p w l e) at m) in (List·Memᴰ·tail (i .0), i .1)
+
+pub in-keep : {A : Type 0} (p : A → Bool) (l : List A) {x : A} → List·Memᴰ x l → p x ≡ true → List·Memᴰ x (keep p l)
+in-keep p [] m h = absurd (List·Memᴰ·not-nil m)
+in-keep {A} p (w ∷ l) {x} m h = go (λ i. in-keep p l i h) (p w) refl (List·Memᴰ·cases-cons m)
+  where
+    go : (List·Memᴰ x l → List·Memᴰ x (keep p l)) → (t : Bool) → p w ≡ t → (x ≡ w) ⊎ List·Memᴰ x l → List·Memᴰ x (keep p (w ∷ l))
+    go ih true e (inl i) = rw (keep-pass p w l e) (List·Memᴰ·head i)
+    go ih true e (inr i) = rw (keep-pass p w l e) (List·Memᴰ·tail (ih i))
+    go ih false e (inl i) = absurd (false-not-true e (rw i at h))
+    go ih false e (inr i) = rw (keep-skip p w l e) (ih i)
 
 -- sifting goes through a join
 pub keep-append : (p : Word → Bool) (a b : List Word) → keep p (a ++ b) ≡ keep p a ++ keep p b

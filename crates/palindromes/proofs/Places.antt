@@ -1,5 +1,5 @@
 -- Where a piece stands: `startsWith` is the test of `Prefix` and `stands` that of `Stands`; the places of a piece are where its cuts begin, in rising
--- order; the first place is the least; and `standsOnce` says that there is one cut only. Rests on proofs/Tests.antt, Words.antt and Lists.antt.
+-- order; the first place is the least; `standsOnce` says that there is one cut only, and a frequency over 1 that there are two. Rests on proofs/Tests.antt, Words.antt and Lists.antt.
 use Prim.Native.Nat.{ℕ, zero, suc, _+_, _≤_, _<_}
 use native.Mathlib.Omega.{arith}
 use mathlib.Core.Path.{_≡_, refl, sym, ap, _∙_, subst}
@@ -279,3 +279,18 @@ stands-once-is p s c one = eq-eqb (length (places p s)) 1 (rising-one (places p 
         let a = place-cut p s j m in
         let b = place-cut p s k n in
         cc (one (a .0) (b .0), a .1, b .1)
+
+-- ---- a piece that stands at least twice
+
+-- it has two cuts
+pub twice : (p s : Word) → 1 < frequency p s → (c : Stands p s) × (d : Stands p s) × (length (c .before) < length (d .before))
+unfolding frequency
+twice p s h = go (places p s) refl (places-rising p s) h
+  where
+    go : (l : List ℕ) → places p s ≡ l → Rising l → 1 < length l → (c : Stands p s) × (d : Stands p s) × (length (c .before) < length (d .before))
+    go [] e r h = absurd (omega arith)
+    go (j ∷ []) e r h = absurd (omega arith)
+    go (j ∷ k ∷ l) e r h =
+        let c = place-cut p s j (rw e (List·Memᴰ·head refl)) in
+        let d = place-cut p s k (rw e (List·Memᴰ·tail (List·Memᴰ·head refl))) in
+        (c .0, d .0, omega (arith, c .1, d .1, r .0 k (List·Memᴰ·head refl)))

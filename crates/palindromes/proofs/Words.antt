@@ -1,7 +1,7 @@
 -- Cuts of words: two cuts of one word (Levi's lemma), words by their last letter, the order laws of `Suffix`, `Prefix` and `Stands`, and what an addition
 -- and a removal at an end do to each other.
 -- Rests on the library's laws of `_++_` and `length`, and on the test of equal words in `Tests`; nothing here knows of palindromes.
-use Prim.Native.Nat.{ℕ, suc, _≤_, _<_}
+use Prim.Native.Nat.{ℕ, suc, _+_, _≤_, _<_}
 use native.Mathlib.Omega.{arith}
 use mathlib.Core.Path.{_≡_, refl, sym, ap, _∙_}
 use mathlib.Core.Logic.{_⊎_, inl, inr, ⊎-elim}
@@ -154,10 +154,26 @@ prefix-of-snoc {w} s c p = ⊎-elim (λ e. inl (cc (e, append-nil w))) (λ r. in
 pub stands-refl : {s : Word} → Stands s s
 stands-refl {s} = record { before = []; after = []; whole = append-nil s }
 
-pub stands-trans : {a b c : Word} → Stands a b → Stands b c → Stands a c
-stands-trans {a} {c} p q =
+-- what stands in a piece stands in the word, where both are cut
+pub stands-within : {a b c : Word} (p : Stands a b) (q : Stands b c) → (r : Stands a c) × (r .before ≡ q .before ++ p .before)
+stands-within {a} {b} {c} p q =
     let e : q .before ++ (p .before ++ a ++ p .after) ++ q .after ≡ c = cc in
-    record { before = q .before ++ p .before; after = p .after ++ q .after; whole = simp append-assoc (simp append-assoc at e) }
+    (record { before = q .before ++ p .before; after = p .after ++ q .after; whole = simp append-assoc (simp append-assoc at e) }, refl)
+
+pub stands-trans : {a b c : Word} → Stands a b → Stands b c → Stands a c
+stands-trans p q = stands-within p q .0
+
+-- and a piece that is cut within another stands in that one
+pub cut-within : {w v s : Word} (c : Stands w s) (d : Stands v s) → length (d .before) ≤ length (c .before)
+    → length (c .before) + length w ≤ length (d .before) + length v → Stands w v
+cut-within {w} {v} {s} c d l r =
+    let m = levi (d .before) (v ++ d .after) (c .before) (w ++ c .after) l same in
+    let f : (m .0 ++ w) ++ c .after ≡ v ++ d .after = cc (m .2, append-assoc (m .0) w (c .after)) in
+    let n = levi (m .0 ++ w) (c .after) v (d .after) (simp length-append (omega (arith, simp length-append at (ap length (m .1))))) f in
+    record { before = m .0; after = n .0; whole = cc (n .1) }
+  where
+    same : d .before ++ (v ++ d .after) ≡ c .before ++ (w ++ c .after)
+    same = cc (append-assoc (d .before) v (d .after), append-assoc (c .before) w (c .after), c .whole, d .whole)
 
 pub stands-length : {a b : Word} → Stands a b → length a ≤ length b
 stands-length p = omega (arith, simp length-append at (ap length (p .whole)))

@@ -6,6 +6,8 @@ pub mod Place
 pub mod Record
 pub mod Occurrences
 pub mod End
+pub mod Interval
+pub mod MinimalUnique
 pub mod Node
 pub mod SearchSteps
 pub mod Eertree

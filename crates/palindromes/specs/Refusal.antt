@@ -9,13 +9,15 @@ use lib.ListN.{length}
 use Rattle.palindromes.specs.Word.{Word, isLetter, allLetters, isEmpty}
 use Rattle.palindromes.specs.Reading.{Reading}
 use Rattle.palindromes.specs.End.{End}
+use Rattle.palindromes.specs.Interval.{intervalBytes}
+use Rattle.palindromes.specs.MinimalUnique.{minimalUnique}
 use Rattle.palindromes.specs.Node.{Node, spellingOf}
 use Rattle.palindromes.specs.Bed.{isIdentifier, listing}
 use Rattle.palindromes.specs.Genbank.{genbank}
 
 -- a question with its arguments: it changes no byte of the store
 pub data Question : Type 0 where
-  theLength theCount theLongest theLongestLength theOccurrences page : Question
+  theLength theCount theLongest theLongestLength theOccurrences page theMinimalUnique : Question
   theLongestAt : End → Question
   theLetter : (place : ℕ) → Question
   theRow : (row : ℕ) → Question
@@ -80,6 +82,7 @@ questionFaults σ v theLongest = fault 6 (isEmpty (v .letters)) ∷ []
 questionFaults σ v theLongestLength = []
 questionFaults σ v theOccurrences = []
 questionFaults σ v page = fault 9 (ltb (v .out) (length (genbank (v .letters)))) ∷ []
+questionFaults σ v theMinimalUnique = fault 9 (ltb (v .out) (length (intervalBytes (minimalUnique σ (v .letters))))) ∷ []
 questionFaults σ v (theLongestAt e) = fault 6 (isEmpty (v .letters)) ∷ []
 questionFaults σ v (theLetter i) = fault 7 (leb (length (v .letters)) i) ∷ []
 questionFaults σ v (theRow r) = fault 7 (isFree (v .row r)) ∷ []

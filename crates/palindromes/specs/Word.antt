@@ -45,10 +45,10 @@ unfoldable pub member : Word → List Word → Bool
 member w [] = false
 member w (v ∷ vs) = sameWord w v || member w vs
 
--- those words of the list that pass the test, in their order
-unfoldable pub keep : (Word → Bool) → List Word → List Word
+-- those of the list that pass the test, in their order
+unfoldable pub keep : {A : Type 0} → (A → Bool) → List A → List A
 keep p [] = []
-keep p (w ∷ ws) = cond (p w) (w ∷ keep p ws) (keep p ws)
+keep p (x ∷ xs) = cond (p x) (x ∷ keep p xs) (keep p xs)
 
 -- each word of the list once, where it stands first
 unfoldable pub distinct : List Word → List Word

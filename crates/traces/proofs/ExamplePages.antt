@@ -42,10 +42,10 @@ pub printed-CAC : (a : ℕ) (b′ : Word) (l′ : Lent) → Promise (ask page) e
 unfolding written
 printed-CAC a b′ l′ p =
     let room : length (genbank (67 ∷ 65 ∷ 67 ∷ [])) ≤ 26 = omega (arith, ap length is-page) in
-    let q = its-pages .printed (lending [] (replicate 26 7)) a b′ l′ p room in
+    let q = its-pages .printed .written (lending [] (replicate 26 7)) a b′ l′ p room in
     ap (λ (l : Lent). l .out) (q .bytes) ∙ ap (sets (replicate 26 7) 0) is-page
 
 pub too-short-for-CAC : (a : ℕ) (b′ : Word) (l′ : Lent) → Promise (ask page) end (lending [] (replicate 23 7)) a b′ l′ → unpacked a ≡ refusedWith 9
 too-short-for-CAC a b′ l′ p =
     let room : 23 < length (genbank (67 ∷ 65 ∷ 67 ∷ [])) = omega (arith, ap length is-page) in
-    its-pages .short (lending [] (replicate 23 7)) a b′ l′ p room .told
+    its-pages .printed .short (lending [] (replicate 23 7)) a b′ l′ p room .told

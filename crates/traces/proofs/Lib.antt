@@ -9,7 +9,9 @@ pub mod Undone
 pub mod Theorem
 pub mod Appending
 pub mod Frequencies
+pub mod Writes
 pub mod Pages
+pub mod MinimalUnique
 pub mod Possible
 pub mod Example
 pub mod ExampleInverted
@@ -17,3 +19,4 @@ pub mod ExampleTurned
 pub mod ExampleAppending
 pub mod ExampleFrequencies
 pub mod ExamplePages
+pub mod ExampleMinimalUnique

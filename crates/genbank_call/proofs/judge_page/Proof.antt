@@ -5,7 +5,7 @@ use borrow.Author.Needs.{needs}
 use Rattle.outcome.specs.Verdict.{damaged}
 use Rattle.outcome.proofs.Fits.{few}
 use Rattle.audit_fixed.proofs.Decided.{holds, fails}
-use Rattle.genbank_call.proofs.Printing.{too-short, can-print}
+use Rattle.genbank_call.proofs.Printing.{no-room, can-print}
 use Rattle.genbank_call.proofs.judge_page.Statement.{statement}
 use Rattle.genbank_call.proofs.judge_page.Tie as tie
 
@@ -24,7 +24,7 @@ returns-2 : tie.Need-returns-2
 returns-2 c =
     let asked = c .before .before in
     let g = asked .before .before .is-good in
-    too-short _ (holds _ (g .result) (g .ensures) (asked .before .if1 .left)) _ (c .before .page-length .ensures _ (sym (asked .length .ensures))) (c .if2 .taken)
+    no-room _ (holds _ (g .result) (g .ensures) (asked .before .if1 .left)) _ (c .before .page-length .ensures _ (sym (asked .length .ensures))) (c .if2 .taken)
 
 returns-3 : tie.Need-returns-3
 returns-3 c =

@@ -1,10 +1,11 @@
 -- `spell_call::judge_spell` is the verdict on spelling a row. Assumes nothing.
 use mathlib.Core.Path.{refl, sym, _∙_}
+use native.Mathlib.Omega.{arith}
 use borrow.Author.Needs.{needs}
 use borrow.Author.Tests.{not-true, not-false}
-use Rattle.outcome.specs.Verdict.{damaged}
+use Rattle.outcome.specs.Verdict.{damaged, judged}
 use Rattle.audit_fixed.proofs.Decided.{holds, fails}
-use Rattle.spell_call.proofs.Spelling.{free-row, spelt-short, can-spell}
+use Rattle.outcome.proofs.Refusals.{spell-free, spell-short, spell-accepted}
 use Rattle.spell_call.proofs.judge_spell.Statement.{statement}
 use Rattle.spell_call.proofs.judge_spell.Tie as tie
 
@@ -17,7 +18,7 @@ is-used-requires c κs = let g = c .before .is-good in holds _ (g .result) (g .e
 returns-2 : tie.Need-returns-2
 returns-2 c =
     let g = c .before .before .before .is-good in
-    free-row _ (holds _ (g .result) (g .ensures) (c .before .before .if1 .left)) _ _ (sym (c .before .is-used .ensures) ∙ not-true _ (c .if2 .taken))
+    judged (holds _ (g .result) (g .ensures) (c .before .before .if1 .left)) (sym (spell-free _ _ _ (sym (c .before .is-used .ensures) ∙ not-true _ (c .if2 .taken))))
 
 spelling-length-requires : tie.Need-spelling-length-requires
 spelling-length-requires c κs =
@@ -27,14 +28,14 @@ spelling-length-requires c κs =
 returns-3 : tie.Need-returns-3
 returns-3 c =
     let g = c .before .before .before .before .before .is-good in
-    spelt-short _ (holds _ (g .result) (g .ensures) (c .before .before .before .before .if1 .left)) _ _
-    (sym (c .before .before .before .is-used .ensures) ∙ not-false _ (c .before .before .if2 .left)) (c .before .spelling-length .ensures) (c .if3 .taken)
+    judged (holds _ (g .result) (g .ensures) (c .before .before .before .before .if1 .left))
+    (sym (spell-short _ _ _ (sym (c .before .before .before .is-used .ensures) ∙ not-false _ (c .before .before .if2 .left)) (omega (arith, c .before .spelling-length .ensures, c .if3 .taken))))
 
 returns-4 : tie.Need-returns-4
 returns-4 c =
     let g = c .before .before .before .before .before .is-good in
-    can-spell _ (holds _ (g .result) (g .ensures) (c .before .before .before .before .if1 .left)) _ _
-    (sym (c .before .before .before .is-used .ensures) ∙ not-false _ (c .before .before .if2 .left)) (c .before .spelling-length .ensures) (c .if3 .left)
+    judged (holds _ (g .result) (g .ensures) (c .before .before .before .before .if1 .left))
+    (sym (spell-accepted _ _ _ (sym (c .before .before .before .is-used .ensures) ∙ not-false _ (c .before .before .if2 .left)) (omega (arith, c .before .spelling-length .ensures, c .if3 .left))))
 
 pub judge-spell-spec : {M : Type 1} → statement M
 judge-spell-spec = tie.close (tie.spec (λ c κs. search needs) returns is-used-requires returns-2 spelling-length-requires returns-3 returns-4)

@@ -1,0 +1,30 @@
+// The host's call that lists where the minimal unique repeats stand. It tests its store and its buffer, asks nothing of
+// the caller, and leaves every byte as the outcome of the call says.
+ghost use mathlib.Core.List.{[]};
+ghost use Rattle.palindromes.specs.Refusal.{theMinimalUnique};
+ghost use Rattle.outcome.specs.Promise.{lending, Asked};
+use end_rows::rows_at_ends;
+use frequencies::row_frequencies;
+use minimal_unique::count_minimal;
+use minimal_unique::put_minimal;
+use outcome::pack;
+use outcome::refuse;
+
+// Writes where each stands, four bytes each, and answers how many there are.
+pub fn list_minimal_unique(store: &[u8], out: &mut [u8]) -> u64
+    ensures { λ r. ⌜ Asked theMinimalUnique (now (store .entry)) (lending [] (now (out .entry))) r (lending [] (now (out .exit))) ⌝ }
+{
+    if !audit::is_good(store) {
+        return refuse(3);
+    }
+    let mut ends = [0u16; 1024];
+    let mut counts = [0u16; 1026];
+    rows_at_ends(store, &mut ends);
+    row_frequencies(store, &mut ends, &mut counts);
+    let number = count_minimal(store, &ends, &counts);
+    if out.len() < 4 * number {
+        return refuse(9);
+    }
+    put_minimal(store, &ends, &counts, out);
+    pack(false, 0, number, 0)
+}

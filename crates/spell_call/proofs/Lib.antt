@@ -1,2 +1,0 @@
--- the answers of the calls
-pub mod Spelling

@@ -1,0 +1,72 @@
+-- What a question that writes to its output answers and leaves on a good store, by the length of the output: `writes`; and that what it answers and writes decides all of that: `same-written`.
+-- Rests on what a promise tells of an outcome (`told`) and on the one law for such questions (`Writing` of outcome).
+use Prim.Native.Nat.{ℕ, _≤_, _<_}
+use native.Mathlib.Decide.{decLt}
+use native.Mathlib.Omega.{arith}
+use mathlib.Core.Path.{_≡_, sym, ap, _∙_}
+use lib.ListN.{length, take}
+use Rattle.palindromes.specs.Word.{Word}
+use Rattle.palindromes.specs.Refusal.{Question, ask}
+use Rattle.decimal.proofs.Stores.{stored-front}
+use Rattle.store.specs.Good.{Good}
+use Rattle.outcome.specs.Outcome.{Lent, Outcome, outcome, written, refusedOutcome}
+use Rattle.outcome.specs.Promise.{lending, Promise}
+use Rattle.outcome.proofs.Told.{told}
+use Rattle.outcome.proofs.Questions.{Writing, with-room, without-room}
+use Rattle.traces.specs.Claims.{SameAnswer}
+use Rattle.traces.specs.Writes.{Written, Short, Writes}
+use Rattle.traces.proofs.Theorem.{same-answer}
+
+module _ {q : Question} {n : ℕ} {w b : Word} (g : Good b) (f : Writing q n w b) where
+  put : (l : Lent) (a : ℕ) (b′ : Word) (l′ : Lent) → Promise (ask q) b l a b′ l′ → length w ≤ length (l .out) → Written n w b l a b′ l′
+  unfolding written
+  put l a b′ l′ p h =
+      let t = told g p in
+      let o = with-room f l h in
+      let bytes : l′ ≡ lending (l .scratch) (written w (l .out)) = t .lent ∙ ap (λ (x : Outcome). x .lent) o in
+      record {
+        told = t .reply ∙ ap (λ (x : Outcome). x .reply) o;
+        store = t .store ∙ ap (λ (x : Outcome). x .store) o;
+        bytes = bytes;
+        front = ap (λ (x : Lent). take (length w) (x .out)) bytes ∙ stored-front (l .out) w h;
+      }
+
+  refused : (l : Lent) (a : ℕ) (b′ : Word) (l′ : Lent) → Promise (ask q) b l a b′ l′ → length (l .out) < length w → Short b l a b′ l′
+  unfolding refusedOutcome
+  refused l a b′ l′ p h =
+      let t = told g p in
+      let o = without-room f l h in
+      record {
+        told = t .reply ∙ ap (λ (x : Outcome). x .reply) o;
+        store = t .store ∙ ap (λ (x : Outcome). x .store) o;
+        bytes = t .lent ∙ ap (λ (x : Outcome). x .lent) o;
+      }
+
+  pub writes : Writes q n w b
+  writes = record { written = put; short = refused }
+
+-- ---- two stores
+
+-- on which a question answers the same number and writes the same bytes
+module _ {q : Question} {n : ℕ} {w b c : Word} (f : Writing q n w b) (e : Writing q n w c) (l : Lent) where
+  abbrev Alike : Type 0
+  Alike = (outcome (ask q) b l .reply ≡ outcome (ask q) c l .reply) × (outcome (ask q) b l .lent ≡ outcome (ask q) c l .lent)
+
+  by-room : Dec (length (l .out) < length w) → Alike
+  unfolding refusedOutcome
+  by-room (yes h) =
+      let x = without-room f l h in
+      let y = without-room e l h in
+      (ap (λ (o : Outcome). o .reply) x ∙ sym (ap (λ (o : Outcome). o .reply) y), ap (λ (o : Outcome). o .lent) x ∙ sym (ap (λ (o : Outcome). o .lent) y))
+  by-room (no m) =
+      let h : length w ≤ length (l .out) = omega arith in
+      let x = with-room f l h in
+      let y = with-room e l h in
+      (ap (λ (o : Outcome). o .reply) x ∙ sym (ap (λ (o : Outcome). o .reply) y), ap (λ (o : Outcome). o .lent) x ∙ sym (ap (λ (o : Outcome). o .lent) y))
+
+  alike : Alike
+  alike = by-room (decLt (length (l .out)) (length w))
+
+-- good ones then answer alike
+pub same-written : {q : Question} {n : ℕ} {w b c : Word} → Good b → Good c → Writing q n w b → Writing q n w c → SameAnswer q b c
+same-written {q} g h f e = same-answer q g h (λ l. alike f e l .0) (λ l. alike f e l .1)

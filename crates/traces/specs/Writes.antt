@@ -1,0 +1,29 @@
+-- DEFINITIONS. What is claimed of a question that writes to its output and that only a short output refuses, whatever buffers come with the call: on the store b it answers the number n
+-- and writes the bytes w. Nothing here is proved.
+use Prim.Native.Nat.{ℕ, _≤_, _<_}
+use mathlib.Core.Path.{_≡_}
+use mathlib.Core.Bool.{false}
+use lib.ListN.{length, take}
+use Rattle.palindromes.specs.Word.{Word}
+use Rattle.palindromes.specs.Refusal.{Question, ask}
+use Rattle.outcome.specs.Reply.{accepted, refusedWith, unpacked}
+use Rattle.outcome.specs.Outcome.{Lent, written}
+use Rattle.outcome.specs.Promise.{lending, Promise}
+
+-- there is room: the bytes stand at the front of the output. 02 (iv) "here and in every later output, bytes beyond those written stay"
+pub record Written (n : ℕ) (w b : Word) (l : Lent) (a : ℕ) (b′ : Word) (l′ : Lent) : Type 0 where
+  pub told : unpacked a ≡ accepted false 0 n 0
+  pub store : b′ ≡ b
+  pub bytes : l′ ≡ lending (l .scratch) (written w (l .out))
+  pub front : take (length w) (l′ .out) ≡ w
+
+-- there is not: 9, and every byte stays
+pub record Short (b : Word) (l : Lent) (a : ℕ) (b′ : Word) (l′ : Lent) : Type 0 where
+  pub told : unpacked a ≡ refusedWith 9
+  pub store : b′ ≡ b
+  pub bytes : l′ ≡ l
+
+-- one or the other, by the length of the output
+pub record Writes (q : Question) (n : ℕ) (w b : Word) : Type 0 where
+  pub written : (l : Lent) (a : ℕ) (b′ : Word) (l′ : Lent) → Promise (ask q) b l a b′ l′ → length w ≤ length (l .out) → Written n w b l a b′ l′
+  pub short : (l : Lent) (a : ℕ) (b′ : Word) (l′ : Lent) → Promise (ask q) b l a b′ l′ → length (l .out) < length w → Short b l a b′ l′
