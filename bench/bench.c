@@ -1,12 +1,13 @@
 /* The benchmark: the library beside its C twin, in one run, on five words and four sizes in either reading, inverted
- * records beside plain ones, turns, frequency, occurrences, genbank and the longest length beside length, removals and the
- * longest at an end beside additions, and finding a piece of a million letters beside testing them.
+ * records beside plain ones, turns, frequency, occurrences, genbank, the minimal unique palindromes and the longest length beside
+ * length, removals and the longest at an end beside additions, and finding a piece of a million letters beside testing them.
  *
  * Prints ratios, library over twin, since times of one machine say little; a ratio above the limit is marked with !.
  * The argument names the file that gets the drawing of growth. Ends with 1 if a tested call at 1,000 letters, a fill or
  * reading FASTA is above its limit, or if at 1,000 letters an inverted record beside a plain one, a turn, frequency,
- * occurrences, genbank or the longest length beside length, or a removal or the longest at an end beside an addition, takes
- * longer than it may, or a piece of a million letters that breaks at its first pair longer than the test of its letters. */
+ * occurrences, genbank, the minimal unique palindromes or the longest length beside length, or a removal or the longest at an end
+ * beside an addition, takes longer than it may, or a piece of a million letters that breaks at its first pair longer than the
+ * test of its letters. */
 #include <math.h>
 
 #include "calls.h"
@@ -95,8 +96,8 @@ static void measure_calls(size_t n)
             }
 }
 
-/* What a call may take beside length on the same letters, 0 for one that is not held against it. */
-static double length_limit(int call)
+/* What a call may take beside length on the same letters of a record of a reading, 0 for one that is not held against it. */
+static double length_limit(int call, enum reading reading)
 {
     if (is_turn(call))
         return TURN_LIMIT;
@@ -104,6 +105,8 @@ static double length_limit(int call)
         return FREQUENCY_LIMIT;
     if (call == CALL_OCCURRENCES)
         return OCCURRENCES_LIMIT;
+    if (call == CALL_MINIMAL_UNIQUE)
+        return reading == PLAIN ? MINIMAL_UNIQUE_LIMIT : MINIMAL_UNIQUE_INVERTED_LIMIT;
     return call == CALL_GENBANK ? GENBANK_LIMIT : 0;
 }
 
@@ -113,7 +116,7 @@ static double length_limit(int call)
 static int over_length(int call, enum reading reading, enum reading made_for)
 {
     int first = made_for * WORDS;
-    double limit = length_limit(call);
+    double limit = length_limit(call, reading);
     if (limit == 0)
         return 0;
     const struct pair *times = &least[call][reading][first];
@@ -413,9 +416,10 @@ int main(int count, char **arguments)
         return 2;
     }
     printf("Tested calls: microseconds of the library, and their ratio to the twin's; ! where above %.1f\n"
-           "Below a turn, frequency, occurrences and genbank their time over that of length on the same letters, in the library "
-           "and in the twin; ! where above %.1f, %.1f, %.1f and %.1f\n",
-           RATIO_LIMIT, TURN_LIMIT, FREQUENCY_LIMIT, OCCURRENCES_LIMIT, GENBANK_LIMIT);
+           "Below a turn, frequency, occurrences, genbank and minimal_unique their time over that of length on the same letters, "
+           "in the library and in the twin; ! where above %.1f, %.1f, %.1f, %.1f and %.1f, the last %.1f in an inverted record\n",
+           RATIO_LIMIT, TURN_LIMIT, FREQUENCY_LIMIT, OCCURRENCES_LIMIT, GENBANK_LIMIT, MINIMAL_UNIQUE_LIMIT,
+           MINIMAL_UNIQUE_INVERTED_LIMIT);
     double test[SIZES][WORDS];
     int above = 0;
     for (int i = 0; i < SIZES; i++) {

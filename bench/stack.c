@@ -2,8 +2,8 @@
  * changed is looked up afterwards; a call of an empty function is taken off. The records are full ones of 1,024
  * letters in either reading, a letter less for additions, where spelling and finding have the longest palindrome there is,
  * the list the most lines, genbank the longest page and a turn the most letters to set aside. What the list takes beyond length,
- * which is the test and one read, is told too. Ends with 1 if a call takes more than 64 KiB, or frequency or occurrences more
- * than 8. */
+ * which is the test and one read, is told too. Ends with 1 if a call takes more than 64 KiB, or frequency, occurrences or
+ * minimal_unique more than 8. */
 #include <stdio.h>
 #include <string.h>
 #include <ucontext.h>
@@ -75,7 +75,10 @@ static size_t most_of(int call, int *word)
     return most;
 }
 
-static size_t limit_of(int call) { return is_frequency(call) || call == CALL_OCCURRENCES ? COUNTS_LIMIT : LIMIT; }
+static size_t limit_of(int call)
+{
+    return is_frequency(call) || call == CALL_OCCURRENCES || call == CALL_MINIMAL_UNIQUE ? COUNTS_LIMIT : LIMIT;
+}
 
 /* The line of a call: the most that it takes, and on which word; whether that is too much. */
 static bool line(int call, size_t most, int word)

@@ -13,10 +13,11 @@ struct pair {
 };
 
 /* The ratio that a tested call may reach at 1,000 letters, the one for reading FASTA, the one of a call on an inverted record
- * to the same call on a plain one with as many letters and rows, those of a turn, of frequency, of occurrences and of genbank to
- * length on the same letters, the one of the longest length to length, each of which is the test and one read, the one of a
- * removal or the longest at an end to an addition there, since each reads the letters once, and the one of finding a long piece
- * that breaks at its first pair to testing its letters. How many ratios to the twin are above the aim is told, and no failure. */
+ * to the same call on a plain one with as many letters and rows, those of a turn, of frequency, of occurrences, of genbank and of
+ * the minimal unique palindromes to length on the same letters, the last by reading, since the test of an inverted record with few
+ * rows is the cheapest, the one of the longest length to length, each of which is the test and one read, the one of a removal or
+ * the longest at an end to an addition there, since each reads the letters once, and the one of finding a long piece that breaks
+ * at its first pair to testing its letters. How many ratios to the twin are above the aim is told, and no failure. */
 #define RATIO_LIMIT 1.5
 #define RATIO_AIM 1.1
 #define FASTA_LIMIT 1.2
@@ -25,6 +26,8 @@ struct pair {
 #define FREQUENCY_LIMIT 2.0
 #define OCCURRENCES_LIMIT 3.0
 #define GENBANK_LIMIT 1.5
+#define MINIMAL_UNIQUE_LIMIT 2.5
+#define MINIMAL_UNIQUE_INVERTED_LIMIT 3.5
 #define LONGEST_LENGTH_LIMIT 1.02
 #define END_LIMIT 1.2
 #define FIRST_PAIR_LIMIT 1.05

@@ -30,6 +30,8 @@ extern "C" {
 #define MIRROR_LIST_SIZE(letters) (45 * (size_t)(letters))
 /* The bytes that a GenBank page of so many letters has, 1,317 at most. The argument is evaluated three times. */
 #define MIRROR_GENBANK_SIZE(letters) (10 + (size_t)(letters) + ((size_t)(letters) + 9) / 10 + 10 * (((size_t)(letters) + 59) / 60))
+/* Output that is always enough for the minimal unique repeats of so many letters, four bytes for each that there is. */
+#define MIRROR_MINIMAL_UNIQUE_SIZE(letters) (4 * (size_t)(letters))
 
 enum {
     MIRROR_CAPACITY = 1,    /* opening: capacity outside 1 to 1,024 */
@@ -98,7 +100,7 @@ uint64_t mirror_genbank(const uint8_t *store, size_t length, uint8_t *out, size_
 /* The minimal unique repeats: those that stand once only and whose inner stretch, the repeat without its first and last letter,
  * is empty or stands at least twice. How many there are is the first number, never more than the record has letters. Where each
  * stands goes to the front of `out`, by start: the place of its first letter and the place one past its last, two bytes each,
- * low byte first. So it takes four bytes for each, and 4,096 are always room enough; output beyond them stays. */
+ * low byte first, which mirror_start and mirror_end read. So each takes four bytes; output beyond them stays. */
 uint64_t mirror_minimal_unique(const uint8_t *store, size_t length, uint8_t *out, size_t out_length);
 /* Reads a FASTA text of any length; needs no store. The identifier stands behind the first `>`, and its length is the
  * first number; the letters go to the front of `out`, and how many is the second. 1,024 bytes are always room enough. In
@@ -115,6 +117,10 @@ static inline int mirror_signed_first(uint64_t answer) { return (int16_t)(answer
 /* The two sums in the answer of mirror_occurrences, in place of the row and the two numbers: bytes 2 to 4, and 5 to 7. */
 static inline uint32_t mirror_by_rows(uint64_t answer) { return (uint32_t)(answer >> 16 & 0xffffff); }
 static inline uint32_t mirror_by_ends(uint64_t answer) { return (uint32_t)(answer >> 40); }
+/* Where repeat i, from 0, begins and ends in what mirror_minimal_unique wrote: the place of its first letter, and the one past
+ * its last. */
+static inline unsigned mirror_start(const uint8_t *out, size_t i) { return out[4 * i] + 256u * out[4 * i + 1]; }
+static inline unsigned mirror_end(const uint8_t *out, size_t i) { return out[4 * i + 2] + 256u * out[4 * i + 3]; }
 
 #ifdef __cplusplus
 }

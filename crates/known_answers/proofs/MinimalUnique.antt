@@ -1,4 +1,5 @@
--- Every known list of minimal unique repeats is that of its letters, and so are its bytes, computed for the whole table at once: `known-minimal-unique`, `known-bytes`. Assumes nothing.
+-- Every known list of minimal unique repeats is that of its letters, and so are its bytes, computed for the whole table at once:
+-- `known-minimal-unique`, `known-bytes`. Assumes nothing.
 use mathlib.Core.Path.{_≡_, refl}
 use mathlib.Core.List.{map}
 use Rattle.palindromes.specs.Word.{isEmpty, mismatchFrom, keep}

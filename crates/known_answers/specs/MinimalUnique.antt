@@ -1,5 +1,5 @@
--- DEFINITIONS. Records with their minimal unique repeats: 02 (viii) "ACGA gives 1 to 2 and 2 to 3"; a double, whose inner stretch is empty; 003 figure 1, with A for a and C for b; and inverted records,
--- 02 (vi)'s GAATTC among them. Nothing here is proved.
+-- DEFINITIONS. Records with their minimal unique repeats: 02 (viii) "ACGA gives 1 to 2 and 2 to 3"; a double, whose inner stretch is empty; 003
+-- figure 1, with A for a and C for b; and inverted records, 02 (vi)'s GAATTC among them. Nothing here is proved.
 use Prim.Native.Nat.{ℕ}
 use mathlib.Core.List.{List, [], _∷_}
 use Rattle.palindromes.specs.Word.{Word}

@@ -1,5 +1,5 @@
--- The minimal unique palindromes of a good store right end by right end: the row that is first met there tells whether the longest palindrome there is one (`first-tells`); those of the first k
--- right ends, `listedTo`, and what one right end more adds. Rests on `minimal-by-end` of palindromes.
+-- The minimal unique palindromes of a good store right end by right end: the row that is first met there tells whether the longest palindrome there
+-- is one (`first-tells`); those of the first k right ends, `listedTo`, and what one right end more adds. Rests on `minimal-by-end` of palindromes.
 use Prim.Native.Nat.{ℕ, _+_, _-_, _≤_, _<_}
 use native.Mathlib.Omega.{arith}
 use mathlib.Core.Path.{_≡_, refl, sym, ap, _∙_}

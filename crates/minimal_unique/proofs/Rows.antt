@@ -1,4 +1,5 @@
--- Which rows of a good store hold minimal unique palindromes, by the frequencies of a row and of its inner row. Rests on 003 lemma 5 (`minimal-by-node` of palindromes).
+-- Which rows of a good store hold minimal unique palindromes, by the frequencies of a row and of its inner row. Rests on 003 lemma 5
+-- (`minimal-by-node` of palindromes).
 use Prim.Native.Nat.{ℕ, zero, suc, _≤_, _<_}
 use native.Mathlib.Omega.{arith}
 use mathlib.Core.Path.{_≡_, refl, sym, ap, _∙_}
@@ -43,11 +44,11 @@ module _ {b : Word} (g : Good b) where
     held = word-row (covers g) r u l
 
     -- its own number, and what its inner row spells
-    by-inner : minimalIn b r ≡ (eqb (getD counts r 0) 1 && isRepeating (lettersIn b) (spellingOf (nodeIn b (innerIn b r))))
+    by-inner : minimalIn b r ≡ (eqb (getD counts r 0) 1 && isRepeating (spellingOf (nodeIn b (innerIn b r))) (lettersIn b))
     unfolding spellingOf
     by-inner =
         let w = held .0 in
-        let inner : spellingOf (innerOf (spelt w)) ≡ spellingOf (nodeIn b (innerIn b r)) = ap spellingOf (ap innerOf (sym (held .1)) ∙ sym (covers g .inner-is r u .1)) in
+        let inner : innerOf (spelt w) ≡ nodeIn b (innerIn b r) = ap innerOf (sym (held .1)) ∙ sym (covers g .inner-is r u .1) in
         ap (λ (v : Node). isMinimalUnique (ruleOf b) (lettersIn b) (spellingOf v)) (held .1)
         ∙ minimal-by-node (ruleOf b) (lettersIn b) w
         ∙ rw (palindromes-is (ruleOf b) w (lettersIn b) (held .2) (held .3), inner, f .each r w u l (held .1)) refl
@@ -64,4 +65,4 @@ module _ {b : Word} (g : Good b) where
         let i = covers g .inner-is r u .0 in
         let d = word-row (covers g) (innerIn b r) i m in
         let often = f .each (innerIn b r) (d .0) i m (d .1) in
-        by-inner ∙ rw (eq-eqb (getD counts r 0) 1 e, d .1, often) (repeating-some (lettersIn b) (d .0) (d .2 .non-empty))
+        by-inner ∙ rw (eq-eqb (getD counts r 0) 1 e, d .1, often) (repeating-some (d .0) (lettersIn b) (d .2 .non-empty))

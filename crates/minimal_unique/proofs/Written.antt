@@ -1,4 +1,5 @@
--- The bytes of the minimal unique palindromes, right end by right end: what is written for the first k right ends, `Written`, and for one more. Rests on `Ends`.
+-- The bytes of the minimal unique palindromes, right end by right end: what is written for the first k right ends, `Written`, and for one more. Rests
+-- on `Ends`.
 use Prim.Native.Nat.{ℕ, suc, _+_, _*_, _-_, _/_, _%_, _≤_, _<_}
 use native.Mathlib.Omega.{arith}
 use mathlib.Core.Path.{_≡_, refl, sym, ap, _∙_}
@@ -23,7 +24,8 @@ use Rattle.minimal_unique.proofs.Ends.{listedTo, listed-old, listed-new
 
 -- four bytes, stored one after the other
 pub four-stored : (l : Word) (at start end : ℕ)
-    → set (set (set (set l at (start % 256)) (at + 1) (start / 256)) (at + 2) (end % 256)) (at + 3) (end / 256) ≡ sets l at (intervalBytes (interval start end ∷ []))
+    → set (set (set (set l at (start % 256)) (at + 1) (start / 256)) (at + 2) (end % 256)) (at + 3) (end / 256)
+    ≡ sets l at (intervalBytes (interval start end ∷ []))
 unfolding intervalBytes twoBytes
 four-stored l at start end =
     let e : at + 1 ≡ suc at = omega arith in
@@ -66,7 +68,8 @@ module _ {b firsts : Word} (g : Good b) (f : FirstRows b firsts) {k : ℕ} (l : 
       let last = ap (λ (x : ℕ). listedTo b k ++ (interval (k + 1 - x) (k + 1) ∷ [])) (sym (begins i h .0)) in
       let m : listedTo b (k + 1) ≡ listedTo b k ++ one = listed-new g f l e i ∙ last in
       let q : at ≡ 0 + length (intervalBytes (listedTo b k)) = omega (arith, p .place, interval-bytes-length (listedTo b k)) in
+      let behind = sets-append out₀ 0 (intervalBytes (listedTo b k)) (intervalBytes one) in
       record {
-        stored = w ∙ rw (m, interval-bytes-append (listedTo b k) one) (cc (p .stored, q, sets-append out₀ 0 (intervalBytes (listedTo b k)) (intervalBytes one)));
+        stored = w ∙ rw (m, interval-bytes-append (listedTo b k) one) (cc (p .stored, q, behind));
         place = omega (arith, a, p .place, one-more g f l e i);
       }

@@ -16,7 +16,9 @@ use Rattle.palindromes.specs.Record.{palindromes, count, least, longestPlace}
 use Rattle.palindromes.specs.Occurrences.{occurrencesByRow, occurrencesByEnd}
 use Rattle.palindromes.specs.End.{End, atLeft, atRight, letterAt}
 use Rattle.palindromes.specs.Node.{Node, imaginary, spelt, lengthOf, spellingOf}
-use Rattle.palindromes.specs.Refusal.{Question, theLength, theCount, theLongest, theLongestLength, theOccurrences, page, theMinimalUnique, theLongestAt, theLetter, theRow, theFrequency, spell, find, list, Call, opening, add, remove, turn, ask, refusal}
+use Rattle.palindromes.specs.Refusal.{Question, theLength, theCount, theLongest, theLongestLength, theOccurrences, page, theMinimalUnique}
+use Rattle.palindromes.specs.Refusal.{theLongestAt, theLetter, theRow, theFrequency, spell, find, list, Call, opening, add, remove, turn, ask}
+use Rattle.palindromes.specs.Refusal.{refusal}
 use Rattle.palindromes.proofs.Tests.{both-true}
 use Rattle.palindromes.proofs.Order.{longest-length-fits, longest-place-is}
 use Rattle.palindromes.proofs.Palindromes.{count-length}

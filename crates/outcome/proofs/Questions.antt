@@ -1,6 +1,7 @@
--- One law for every question, in place of one for each. Where nothing refuses it, an answer packed as `answerTo` says keeps the promise (`question-answered`), and its numbers fit
--- (`question-packs`); what a call that is not refused tells of its arguments, test by test (`none-applies`, `passed`). And one law for the questions that only a short output
--- refuses: what such a question comes to, by the length of the output (`Writing`, `with-room`, `without-room`). Rests on `Promises` and `Fits`.
+-- One law for every question, in place of one for each. Where nothing refuses it, an answer packed as `answerTo` says keeps the promise
+-- (`question-answered`), and its numbers fit (`question-packs`); what a call that is not refused tells of its arguments, test by test
+-- (`none-applies`, `passed`). And one law for the questions that only a short output refuses: what such a question comes to, by the length of the
+-- output (`Writing`, `with-room`, `without-room`). Rests on `Promises` and `Fits`.
 use Prim.Native.Nat.{ℕ, zero, suc, _<_, _≤_}
 use native.Mathlib.Omega.{arith}
 use mathlib.Core.Path.{_≡_, refl, sym, ap, ap₂, _∙_}

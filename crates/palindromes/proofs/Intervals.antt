@@ -1,6 +1,7 @@
--- Intervals: what is cut from a record stands where it was cut (`cut-interval`, `interval-cut`); the intervals of a record are those that lie in it, ordered by start and then by end
--- (`intervals-true`, `intervals-is`, `intervals-ordered`); ordered lists with the same members are equal (`ordered-same`); an interval takes four bytes (`interval-bytes-length`).
--- Rests on the laws of sifted lists in proofs/Lists.antt only.
+-- Intervals: what is cut from a record stands where it was cut (`cut-interval`, `interval-cut`); the intervals of a record are those that lie in it,
+-- ordered by start and then by end (`intervals-true`, `intervals-is`, `intervals-ordered`); ordered lists with the same members are equal
+-- (`ordered-same`); an interval takes four bytes, from which it can be read back (`interval-bytes-length`, `intervals-read`). Rests on the laws of
+-- sifted lists in proofs/Lists.antt only.
 use Prim.Native.Nat.{ℕ, zero, suc, _+_, _*_, _-_, _≤_, _<_}
 use native.Mathlib.Omega.{arith}
 use native.Mathlib.Decide.{ℕ-discrete}
@@ -14,7 +15,7 @@ use lib.ListN.{length, take, drop, length-drop, take-append-drop}
 use lib.Seq.{take-at, drop-at, length-take-le}
 use Rattle.palindromes.specs.Word.{Word, keep}
 use Rattle.palindromes.specs.Place.{Stands}
-use Rattle.palindromes.specs.Interval.{Interval, interval, wordAt, numbersFrom, intervalsFrom, intervals, twoBytes, intervalBytes}
+use Rattle.palindromes.specs.Interval.{Interval, interval, wordAt, numbersFrom, intervalsFrom, intervals, twoBytes, intervalBytes, intervalsRead}
 use Rattle.palindromes.proofs.Lists.{keep-nil, keep-pass, keep-skip, of-keep}
 
 -- ---- what stands there
@@ -207,3 +208,9 @@ pub interval-bytes-append : (a b : List Interval) → intervalBytes (a ++ b) ≡
 unfolding intervalBytes twoBytes
 interval-bytes-append [] b = refl
 interval-bytes-append (p ∷ a) b = rw (interval-bytes-append a b)
+
+-- and they can be read back
+pub intervals-read : (l : List Interval) → intervalsRead (intervalBytes l) ≡ l
+unfolding intervalBytes twoBytes intervalsRead
+intervals-read [] = refl
+intervals-read (p ∷ l) = ap₂ _∷_ (ap₂ interval (omega arith) (omega arith)) (intervals-read l)

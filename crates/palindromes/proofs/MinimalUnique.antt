@@ -1,5 +1,6 @@
--- Minimal unique palindromes, word by word: what the test says (`minimal-true`); of two of them none stands in the other (`none-inside`); and which nodes of the eertree
--- spell one, by the frequencies of a node and of its inner node: 003 lemma 5 (`minimal-by-node`). Rests on the cuts of `Words` and `Places`. The partner rule may be any.
+-- Minimal unique palindromes, word by word: what the test says (`minimal-true`); of two of them none stands in the other (`none-inside`); and which
+-- nodes of the eertree spell one, by the frequencies of a node and of its inner node: 003 lemma 5 (`minimal-by-node`). Rests on the cuts of `Words`
+-- and `Places`. The partner rule may be any.
 use Prim.Native.Nat.{ℕ, _+_, _≤_, _<_}
 use native.Mathlib.Omega.{arith}
 use mathlib.Core.Path.{_≡_, refl, sym, ap, _∙_}
@@ -44,18 +45,18 @@ unfolding isEmpty
 empty-true [] e = refl
 empty-true (x ∷ w) e = absurd (false-not-true refl e)
 
-repeating-true : (s v : Word) → isRepeating s v ≡ true → (v ≡ []) ⊎ (1 < frequency v s)
+repeating-true : (v s : Word) → isRepeating v s ≡ true → (v ≡ []) ⊎ (1 < frequency v s)
 unfolding isRepeating
-repeating-true s v e =
+repeating-true v s e =
     ⊎-elim (λ i. inl (empty-true v i)) (λ i. inr (ltb-true 1 (frequency v s) i)) (either-true (isEmpty v) (ltb 1 (frequency v s)) e)
 
-pub repeating-empty : (s : Word) → isRepeating s [] ≡ true
+pub repeating-empty : (s : Word) → isRepeating [] s ≡ true
 unfolding isRepeating isEmpty
 repeating-empty s = refl
 
-pub repeating-some : (s v : Word) → (v ≡ [] → ⊥) → isRepeating s v ≡ ltb 1 (frequency v s)
+pub repeating-some : (v s : Word) → (v ≡ [] → ⊥) → isRepeating v s ≡ ltb 1 (frequency v s)
 unfolding isRepeating
-repeating-some s v n = rw (non-empty-is v n) refl
+repeating-some v s n = rw (non-empty-is v n) refl
 
 pub record MinimalUnique (σ : ℕ → ℕ) (s w : Word) : Type 0 where
   pub palindrome : Palindrome σ w
@@ -65,10 +66,10 @@ pub record MinimalUnique (σ : ℕ → ℕ) (s w : Word) : Type 0 where
 
 module _ (σ : ℕ → ℕ) (s : Word) where
   -- test by test
-  tests : (w : Word) → isMinimalUnique σ s w ≡ true → (isPalindrome σ w ≡ true) × (standsOnce w s ≡ true) × (isRepeating s (innerWord w) ≡ true)
+  tests : (w : Word) → isMinimalUnique σ s w ≡ true → (isPalindrome σ w ≡ true) × (standsOnce w s ≡ true) × (isRepeating (innerWord w) s ≡ true)
   unfolding isMinimalUnique
   tests w e =
-      let h = both-true (isPalindrome σ w && standsOnce w s) (isRepeating s (innerWord w)) e in
+      let h = both-true (isPalindrome σ w && standsOnce w s) (isRepeating (innerWord w) s) e in
       let k = both-true (isPalindrome σ w) (standsOnce w s) (h .0) in
       (k .0, k .1, h .1)
 
@@ -76,16 +77,17 @@ module _ (σ : ℕ → ℕ) (s : Word) where
   minimal-true w e =
       let t = tests w e in
       let o = stands-once-true w s (t .1) in
-      record { palindrome = palindrome-true σ w (t .0); there = o .0; once = o .1; inner = repeating-true s (innerWord w) (t .2) }
+      record { palindrome = palindrome-true σ w (t .0); there = o .0; once = o .1; inner = repeating-true (innerWord w) s (t .2) }
 
   -- the empty word is none
   pub minimal-empty : isMinimalUnique σ s [] ≡ false
   unfolding isMinimalUnique isPalindrome isEmpty
   minimal-empty = refl
 
-  -- 003 lemma 5: a word is minimal unique exactly if it is a palindrome of the record, which has a node each, that stands once, and its inner node spells nothing or stands at least twice
+  -- 003 lemma 5: a word is minimal unique exactly if it is a palindrome of the record, which has a node each, that stands once, and its inner node
+  -- spells nothing or stands at least twice
   pub minimal-by-node : (w : Word)
-      → isMinimalUnique σ s w ≡ (member w (palindromes σ s) && eqb (frequency w s) 1 && isRepeating s (spellingOf (innerOf (spelt w))))
+      → isMinimalUnique σ s w ≡ (member w (palindromes σ s) && eqb (frequency w s) 1 && isRepeating (spellingOf (innerOf (spelt w))) s)
   unfolding isMinimalUnique standsOnce
   minimal-by-node w = same-test (isMinimalUnique σ s w) _ there back
     where
@@ -93,7 +95,7 @@ module _ (σ : ℕ → ℕ) (s : Word) where
       node = member w (palindromes σ s)
 
       repeating : Bool
-      repeating = isRepeating s (spellingOf (innerOf (spelt w)))
+      repeating = isRepeating (spellingOf (innerOf (spelt w))) s
 
       there : isMinimalUnique σ s w ≡ true → (node && eqb (frequency w s) 1 && repeating) ≡ true
       there e =
@@ -108,12 +110,12 @@ module _ (σ : ℕ → ℕ) (s : Word) where
           let k = both-true node (standsOnce w s) (h .0) in
           let p = palindrome-is σ w (palindromes-true σ w s (k .0) .0) in
           let both = both-are (isPalindrome σ w) (standsOnce w s) p (k .1) in
-          both-are (isPalindrome σ w && standsOnce w s) (isRepeating s (innerWord w)) both (rw (inner-spelling w) (h .1))
+          both-are (isPalindrome σ w && standsOnce w s) (isRepeating (innerWord w) s) both (rw (inner-spelling w) (h .1))
 
   -- ---- none inside another
 
-  -- a minimal unique palindrome that stands in another is that one: it stands in the middle, or it would stand there again in the mirror; and then it stands in the inner word,
-  -- which stands twice
+  -- a minimal unique palindrome that stands in another is that one: it stands in the middle, or it would stand there again in the mirror; and then it
+  -- stands in the inner word, which stands twice
   pub none-inside : {w v : Word} → MinimalUnique σ s w → MinimalUnique σ s v → Stands w v → w ≡ v
   none-inside {w} {v} a b c = go (by-last (c .after)) (c .before) refl
     where

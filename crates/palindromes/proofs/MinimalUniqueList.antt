@@ -1,8 +1,9 @@
--- The list of the minimal unique palindromes. It has exactly the intervals whose word passes the test, in order (`listed-true`, `listed-is`, `listed-ordered`). None lies within
--- another (`none-within`), so no two begin at one place or end at one, and the order by start is the order by end (`same-start`, `same-end`, `start-end-order`). Each is the
--- longest palindrome at its end, which is its first end (`longest-at-end`), so a reading of the record from left to right meets them in the order of the list (`minimal-by-end`),
--- and they are the palindromes of the record that pass the test, by first ends (`minimal-by-rows`). There are at most as many as letters (`minimal-few`). Rests on
--- `MinimalUnique`, `Intervals` and `Order`. The partner rule may be any.
+-- The list of the minimal unique palindromes. It has exactly the intervals whose word passes the test, in order (`listed-true`, `listed-is`,
+-- `listed-ordered`). None lies within another (`none-within`), so no two begin at one place or end at one, and the order by start is the order by end
+-- (`same-start`, `same-end`, `start-end-order`). Each is the longest palindrome at its end, which is its first end (`longest-at-end`), so a reading
+-- of the record from left to right meets them in the order of the list (`minimal-by-end`), and they are the palindromes of the record that pass the
+-- test, by first ends (`minimal-by-rows`). There are at most as many as letters (`minimal-few`). Rests on `MinimalUnique`, `Intervals` and `Order`.
+-- The partner rule may be any.
 use Prim.Native.Nat.{ℕ, zero, suc, _+_, _-_, _≤_, _<_}
 use native.Mathlib.Omega.{arith}
 use native.Mathlib.Numerals.{add-one}
@@ -27,7 +28,8 @@ use Rattle.palindromes.proofs.Lists.{keep-nil, keep-pass, keep-skip, of
 use Rattle.palindromes.proofs.Places.{Rising, first-place, first-end-fits}
 use Rattle.palindromes.proofs.Palindromes.{palindromes-is}
 use Rattle.palindromes.proofs.Order.{longest-at-first-end, first-ends-rising}
-use Rattle.palindromes.proofs.Intervals.{IntervalIn, interval-cut, cut-interval, same-interval, Earlier, Ordered, ordered-append, ordered-keep, ordered-same, intervals-true, intervals-is, intervals-ordered}
+use Rattle.palindromes.proofs.Intervals.{IntervalIn, interval-cut, cut-interval, same-interval, Earlier, Ordered, ordered-append, ordered-keep}
+use Rattle.palindromes.proofs.Intervals.{ordered-same, intervals-true, intervals-is, intervals-ordered}
 use Rattle.palindromes.proofs.MinimalUnique.{minimal-true, none-inside}
 
 -- an interval of the record whose word passes the test
@@ -268,7 +270,8 @@ module _ (σ : ℕ → ℕ) (s : Word) where
       record { lies = record { some = omega arith; fits = first-end-fits w s (a .there) }; passes = rw stands e }
 
   -- of two the one that first ends earlier begins earlier
-  ends-earlier : (u w : Word) → test u ≡ true → test w ≡ true → firstPlace u s + length u < firstPlace w s + length w → Earlier (firstInterval s u) (firstInterval s w)
+  ends-earlier : (u w : Word) → test u ≡ true → test w ≡ true → firstPlace u s + length u < firstPlace w s + length w
+      → Earlier (firstInterval s u) (firstInterval s w)
   ends-earlier u w e f l = go (decLt (firstPlace u s) (firstPlace w s))
     where
       go : Dec (firstPlace u s < firstPlace w s) → Earlier (firstInterval s u) (firstInterval s w)
@@ -292,7 +295,8 @@ module _ (σ : ℕ → ℕ) (s : Word) where
       go true e ih = rw (keep-pass test w l e) (later e, ih)
       go false e ih = rw (keep-skip test w l e) ih
 
-  -- the list is that of the palindromes of the record that pass the test, each at its first place, in the order of their first ends: `minimal-by-node` says which those are
+  -- the list is that of the palindromes of the record that pass the test, each at its first place, in the order of their first ends:
+  -- `minimal-by-node` says which those are
   pub minimal-by-rows : minimalUnique σ s ≡ map (firstInterval s) (keep (isMinimalUnique σ s) (palindromes σ s))
   minimal-by-rows = ordered-same (minimalUnique σ s) rows (listed-ordered σ s) (rows-ordered (palindromes σ s) (first-ends-rising σ s)) there back
     where

@@ -1,5 +1,6 @@
 -- Where a piece stands: `startsWith` is the test of `Prefix` and `stands` that of `Stands`; the places of a piece are where its cuts begin, in rising
--- order; the first place is the least; `standsOnce` says that there is one cut only, and a frequency over 1 that there are two. Rests on proofs/Tests.antt, Words.antt and Lists.antt.
+-- order; the first place is the least; `standsOnce` says that there is one cut only, and a frequency over 1 that there are two.
+-- Rests on proofs/Tests.antt, Words.antt and Lists.antt.
 use Prim.Native.Nat.{ℕ, zero, suc, _+_, _≤_, _<_}
 use native.Mathlib.Omega.{arith}
 use mathlib.Core.Path.{_≡_, refl, sym, ap, _∙_, subst}

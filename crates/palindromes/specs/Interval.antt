@@ -1,5 +1,6 @@
--- DEFINITIONS. Where a stretch of a record stands, by the places of its two ends: 003 section 5.1 "intervals"; 02 (viii) "each start and end". Nothing here is proved.
-use Prim.Native.Nat.{ℕ, zero, suc, _-_, _/_, _%_}
+-- DEFINITIONS. Where a stretch of a record stands, by the places of its two ends: 003 section 5.1 "intervals"; 02 (viii) "each start and end".
+-- Nothing here is proved.
+use Prim.Native.Nat.{ℕ, zero, suc, _+_, _*_, _-_, _/_, _%_}
 use mathlib.Core.List.{List, [], _∷_, _++_, map}
 use lib.ListN.{length, take, drop}
 use Rattle.palindromes.specs.Word.{Word}
@@ -38,3 +39,11 @@ twoBytes n = n % 256 ∷ n / 256 ∷ []
 unfoldable pub intervalBytes : List Interval → Word
 intervalBytes [] = []
 intervalBytes (i ∷ is) = twoBytes (i .start) ++ twoBytes (i .end) ++ intervalBytes is
+
+-- what a host reads in such bytes, four by four: `mirror_start` and `mirror_end` of include/mirror.h
+unfoldable pub intervalsRead : Word → List Interval
+intervalsRead [] = []
+intervalsRead (a ∷ []) = []
+intervalsRead (a ∷ b ∷ []) = []
+intervalsRead (a ∷ b ∷ c ∷ []) = []
+intervalsRead (a ∷ b ∷ c ∷ d ∷ w) = interval (a + 256 * b) (c + 256 * d) ∷ intervalsRead w

@@ -1,5 +1,5 @@
--- The list of `Example` as far as CAC, and what the claims about minimal unique repeats say of it: A alone, which stands once, at 1 to 2; CAC stands once too, but so does the A inside it.
--- Three bytes, one less than it takes, are refused.
+-- The list of `Example` as far as CAC, and what the claims about minimal unique repeats say of it: A alone, which stands once, at 1 to 2; CAC stands
+-- once too, but so does the A inside it. Three bytes, one less than it takes, are refused.
 use Prim.Native.Nat.{ℕ, _*_}
 use native.Mathlib.Omega.{arith}
 use mathlib.Core.Path.{_≡_, refl, ap, _∙_, subst}
@@ -56,5 +56,6 @@ interval-of-A a b′ l′ p =
       ap (λ (l : Lent). l .out) (q .bytes) ∙ ap (λ (x : List Interval). sets (replicate 6 7) 0 (intervalBytes x)) A-alone,
     )
 
-pub three-bytes-too-few : (a : ℕ) (b′ : Word) (l′ : Lent) → Promise (ask theMinimalUnique) end (lending [] (replicate 3 7)) a b′ l′ → unpacked a ≡ refusedWith 9
+pub three-bytes-too-few : (a : ℕ) (b′ : Word) (l′ : Lent) → Promise (ask theMinimalUnique) end (lending [] (replicate 3 7)) a b′ l′
+    → unpacked a ≡ refusedWith 9
 three-bytes-too-few a b′ l′ p = claims .listed .short (lending [] (replicate 3 7)) a b′ l′ p (omega (arith, size)) .told

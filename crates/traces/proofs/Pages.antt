@@ -1,5 +1,6 @@
 -- The printed page after every list of calls: `pages-after`; and that the letters alone decide it: `same-page-after`, for any two lists, capacities and readings, with turns or without.
--- Rests on the state that the theorem about lists carries, on the one law for questions that write (`writes`, `same-written`), and on the laws of the page (`genbank`).
+-- Rests on the state that the theorem about lists carries, on the one law for questions that write (`writes`, `same-written`), and on the laws of the page
+-- (`genbank`).
 use Prim.Native.Nat.{ℕ, _≤_}
 use native.Mathlib.Omega.{arith}
 use mathlib.Core.Path.{_≡_, sym, ap, _∙_, subst}
@@ -48,7 +49,9 @@ module _ (m k : ℕ) (s : Word) (row : Word → ℕ) (b : Word) (st : State m k 
 module _ (way : Reading) (k : ℕ) (b₀ : Word) (h : Bytes b₀) (a : ℕ) (b : Word) (p : OpeningPromise way k b₀ a b) (z : refusalIn a ≡ 0) where
   pub pages-after : {xs : List Step} → Run b xs → Pages (lettersAfter k xs) (storeAfter b xs)
   pages-after {xs} r =
-      pages (readingAfter (readingNumber way) xs) k (lettersAfter k xs) (λ w. rowAfter (readingNumber way) k xs w) (storeAfter b xs) (state-after way k b₀ h a b p z r)
+      let m = readingAfter (readingNumber way) xs in
+      let row : Word → ℕ = λ w. rowAfter (readingNumber way) k xs w in
+      pages m k (lettersAfter k xs) row (storeAfter b xs) (state-after way k b₀ h a b p z r)
 
 -- good stores with the same letters print alike, whatever their readings, capacities and rows
 same-page : (b c : Word) → Good b → Good c → lettersIn b ≡ lettersIn c → SameAnswer page b c

@@ -1,5 +1,6 @@
--- What a question that writes to its output answers and leaves on a good store, by the length of the output: `writes`; and that what it answers and writes decides all of that: `same-written`.
--- Rests on what a promise tells of an outcome (`told`) and on the one law for such questions (`Writing` of outcome).
+-- What a question that writes to its output answers and leaves on a good store, by the length of the output: `writes`; and that what it answers and
+-- writes decides all of that: `same-written`. Rests on what a promise tells of an outcome (`told`) and on the one law for such questions (`Writing`
+-- of outcome).
 use Prim.Native.Nat.{ℕ, _≤_, _<_}
 use native.Mathlib.Decide.{decLt}
 use native.Mathlib.Omega.{arith}

@@ -8,7 +8,8 @@ use Rattle.palindromes.specs.Refusal.{page}
 use Rattle.genbank.specs.ReadBack.{readBack}
 use Rattle.traces.specs.Writes.{Writes}
 
--- the page of the letters is written, or "a buffer too short for the page is refused with 9"; it can be read back to the letters, and 1,317 bytes are always enough
+-- the page of the letters is written, or "a buffer too short for the page is refused with 9"; it can be read back to the letters, and 1,317 bytes are always
+-- enough
 pub record Pages (s b : Word) : Type 0 where
   pub printed : Writes page (length (genbank s)) (genbank s) b
   pub read : readBack (genbank s) ≡ s

@@ -1,5 +1,5 @@
--- DEFINITIONS. What is claimed of a question that writes to its output and that only a short output refuses, whatever buffers come with the call: on the store b it answers the number n
--- and writes the bytes w. Nothing here is proved.
+-- DEFINITIONS. What is claimed of a question that writes to its output and that only a short output refuses, whatever buffers come with the call: on
+-- the store b it answers the number n and writes the bytes w. Nothing here is proved.
 use Prim.Native.Nat.{ℕ, _≤_, _<_}
 use mathlib.Core.Path.{_≡_}
 use mathlib.Core.Bool.{false}

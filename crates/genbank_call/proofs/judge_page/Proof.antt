@@ -24,7 +24,8 @@ returns-2 : tie.Need-returns-2
 returns-2 c =
     let asked = c .before .before in
     let g = asked .before .before .is-good in
-    no-room _ (holds _ (g .result) (g .ensures) (asked .before .if1 .left)) _ (c .before .page-length .ensures _ (sym (asked .length .ensures))) (c .if2 .taken)
+    let size = c .before .page-length .ensures _ (sym (asked .length .ensures)) in
+    no-room _ (holds _ (g .result) (g .ensures) (asked .before .if1 .left)) _ size (c .if2 .taken)
 
 returns-3 : tie.Need-returns-3
 returns-3 c =

@@ -1,5 +1,5 @@
--- `minimal_unique::count_minimal` goes over the right ends. The loop's invariant: as many are counted as there are at the right ends passed. The measure is what is left of them.
--- Assumes nothing.
+-- `minimal_unique::count_minimal` goes over the right ends. The loop's invariant: as many are counted as there are at the right ends passed. The
+-- measure is what is left of them. Assumes nothing.
 use Prim.Native.Nat.{ℕ, _-_, _≤_, _<_}
 use native.Mathlib.Omega.{arith}
 use mathlib.Core.Path.{_≡_, sym, ap, _∙_}

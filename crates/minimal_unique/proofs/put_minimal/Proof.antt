@@ -1,5 +1,5 @@
--- `minimal_unique::put_minimal` goes over the right ends. The loop's invariant: what there is at the right ends passed is written at the front of the buffer. The measure is what is left
--- of them. Assumes nothing.
+-- `minimal_unique::put_minimal` goes over the right ends. The loop's invariant: what there is at the right ends passed is written at the front of the
+-- buffer. The measure is what is left of them. Assumes nothing.
 use Prim.Native.Nat.{ℕ, _-_, _≤_, _<_}
 use native.Mathlib.Omega.{arith}
 use mathlib.Core.Path.{_≡_, ap, _∙_}
@@ -54,7 +54,8 @@ sub-put-interval c =
     let i = from-length c in
     let s = from-loop (i .before) in
     let minimal = c .before .before .before .is-minimal .ensures in
-    omega (arith, begins (s .pre .0) (s .pre .1 .0) (more i) minimal (i .before .loop .inv .put) (c .before .before .if1 .taken) (c .spelling-length .ensures) .1)
+    let begun = begins (s .pre .0) (s .pre .1 .0) (more i) minimal (i .before .loop .inv .put) (c .before .before .if1 .taken) in
+    omega (arith, begun (c .spelling-length .ensures) .1)
 
 put-interval-requires : tie.Need-put-interval-requires Inv-loop μ-loop
 put-interval-requires c κs =

@@ -18,7 +18,8 @@ is-used-requires c κs = let g = c .before .is-good in holds _ (g .result) (g .e
 returns-2 : tie.Need-returns-2
 returns-2 c =
     let g = c .before .before .before .is-good in
-    judged (holds _ (g .result) (g .ensures) (c .before .before .if1 .left)) (sym (spell-free _ _ _ (sym (c .before .is-used .ensures) ∙ not-true _ (c .if2 .taken))))
+    let free = sym (c .before .is-used .ensures) ∙ not-true _ (c .if2 .taken) in
+    judged (holds _ (g .result) (g .ensures) (c .before .before .if1 .left)) (sym (spell-free _ _ _ free))
 
 spelling-length-requires : tie.Need-spelling-length-requires
 spelling-length-requires c κs =
@@ -28,14 +29,16 @@ spelling-length-requires c κs =
 returns-3 : tie.Need-returns-3
 returns-3 c =
     let g = c .before .before .before .before .before .is-good in
+    let used = sym (c .before .before .before .is-used .ensures) ∙ not-false _ (c .before .before .if2 .left) in
     judged (holds _ (g .result) (g .ensures) (c .before .before .before .before .if1 .left))
-    (sym (spell-short _ _ _ (sym (c .before .before .before .is-used .ensures) ∙ not-false _ (c .before .before .if2 .left)) (omega (arith, c .before .spelling-length .ensures, c .if3 .taken))))
+    (sym (spell-short _ _ _ used (omega (arith, c .before .spelling-length .ensures, c .if3 .taken))))
 
 returns-4 : tie.Need-returns-4
 returns-4 c =
     let g = c .before .before .before .before .before .is-good in
+    let used = sym (c .before .before .before .is-used .ensures) ∙ not-false _ (c .before .before .if2 .left) in
     judged (holds _ (g .result) (g .ensures) (c .before .before .before .before .if1 .left))
-    (sym (spell-accepted _ _ _ (sym (c .before .before .before .is-used .ensures) ∙ not-false _ (c .before .before .if2 .left)) (omega (arith, c .before .spelling-length .ensures, c .if3 .left))))
+    (sym (spell-accepted _ _ _ used (omega (arith, c .before .spelling-length .ensures, c .if3 .left))))
 
 pub judge-spell-spec : {M : Type 1} → statement M
 judge-spell-spec = tie.close (tie.spec (λ c κs. search needs) returns is-used-requires returns-2 spelling-length-requires returns-3 returns-4)

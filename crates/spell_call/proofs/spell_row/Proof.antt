@@ -34,7 +34,8 @@ unfolding answerTo lentAfter written
 returns-2 c =
     let called = c .before .before .before in
     let a = answerable _ _ _ _ (called .before .before .before .judge-spell .ensures) (called .before .before .if1 .left) in
-    question-answered (spell _) _ _ a (c .pack .ensures ∙ ap (λ (n : ℕ). packed (accepted false 0 n 0)) (called .spell .ensures .1)) (ap (lending []) (called .spell .ensures .0))
+    let reply = c .pack .ensures ∙ ap (λ (n : ℕ). packed (accepted false 0 n 0)) (called .spell .ensures .1) in
+    question-answered (spell _) _ _ a reply (ap (lending []) (called .spell .ensures .0))
 
 pub spell-row-spec : {M : Type 1} → statement M
 spell-row-spec =
