@@ -212,6 +212,22 @@ static void say_genbank(const struct line *l, uint64_t answer)
     }
 }
 
+/* They are lent just the bytes that they take, which a first call with enough tells, or as many as the line says. */
+static uint64_t make_minimal(const struct line *l)
+{
+    size_t room = MIRROR_MINIMAL_UNIQUE_SIZE(mirror_first(mirror_minimal_unique(store, sizeof store, text, sizeof text)));
+    if (*l->words[1]) room = l->number < sizeof text ? (size_t)l->number : sizeof text;
+    return mirror_minimal_unique(store, sizeof store, text, room);
+}
+
+/* Where each of them stands, with its end one past its last letter. */
+static void say_minimal(const struct line *l, uint64_t answer)
+{
+    (void)l;
+    if (mirror_first(answer) == 0) printf("none");
+    for (unsigned i = 0; i < mirror_first(answer); i++) printf("%s%u to %u", i ? ", " : "", mirror_start(text, i), mirror_end(text, i));
+}
+
 static const struct form forms[] = {
     {"open", NUMBER, "open CAPACITY", make_open, say_done},
     {"open-inverted", NUMBER, "open-inverted CAPACITY", make_open_inverted, say_done},
@@ -230,6 +246,7 @@ static const struct form forms[] = {
     {"find", MAYBE_TEXT, "find PIECE", make_find, say_find},
     {"list", MAYBE_TEXT, "list IDENTIFIER", make_list, say_list},
     {"genbank", MAYBE_NUMBER, "genbank, genbank BYTES", make_genbank, say_genbank},
+    {"minimal", MAYBE_NUMBER, "minimal, minimal BYTES", make_minimal, say_minimal},
     {"rows", NOTHING, "rows", NULL, NULL},
 };
 

@@ -57,6 +57,23 @@ size_t brute_list(const unsigned char *rule, const unsigned char *s, size_t n, s
     return count;
 }
 
+size_t brute_minimal_unique(const unsigned char *rule, const unsigned char *s, size_t n, stretch *out)
+{
+    size_t count = 0, first;
+    for (size_t start = 0; start < n; start++)
+        for (size_t end = start + 1; end <= n; end++) {
+            const unsigned char *w = s + start;
+            size_t m = end - start;
+            if (!brute_palindrome(rule, w, m) || brute_first(w, m, s, n) != start) continue; /* what stands before is soon found */
+            if (brute_places(w, m, s, n, &first) != 1) continue;
+            if (m > 2 && brute_places(w + 1, m - 2, s, n, &first) < 2) continue;
+            out[count].start = start;
+            out[count].end = end;
+            count++;
+        }
+    return count;
+}
+
 stretch brute_longest(const unsigned char *rule, const unsigned char *s, size_t n)
 {
     stretch best = {0, 0};

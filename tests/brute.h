@@ -23,6 +23,9 @@ size_t brute_places(const unsigned char *p, size_t m, const unsigned char *s, si
 size_t brute_first(const unsigned char *p, size_t m, const unsigned char *s, size_t n);
 /* Every palindrome of s once, at its first place, ordered by end. Returns how many; out has room for n. */
 size_t brute_list(const unsigned char *rule, const unsigned char *s, size_t n, stretch *out);
+/* Every palindrome of s that stands once and whose inner word, without the first and the last letter, is empty or stands at least
+ * twice, ordered by start and then by end. Returns how many; out has room for n. */
+size_t brute_minimal_unique(const unsigned char *rule, const unsigned char *s, size_t n, stretch *out);
 /* The longest palindrome and its leftmost place; 0 at 0 where there is none. */
 stretch brute_longest(const unsigned char *rule, const unsigned char *s, size_t n);
 /* The length of the longest palindrome at the right and at the left end. */

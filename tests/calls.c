@@ -24,6 +24,7 @@ uint64_t call_make(const library *of, uint8_t *store, size_t length, const call 
     case SPELL: return of->spell(store, length, c->number, lent->out, c->out_length);
     case FIND: return of->find(store, length, lent->text, c->text_length);
     case GENBANK: return of->genbank(store, length, lent->out, c->out_length);
+    case MINIMAL_UNIQUE: return of->minimal_unique(store, length, lent->out, c->out_length);
     default: return of->list(store, length, lent->text, c->text_length, lent->scratch, c->scratch_length, lent->out, c->out_length);
     }
 }

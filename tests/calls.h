@@ -14,7 +14,7 @@ typedef struct {
     uint64_t number;                    /* the capacity, letter, place or row */
     const unsigned char *text;          /* find's piece, list's identifier */
     size_t text_length;
-    size_t scratch_length, out_length;  /* the buffers that list, spell and genbank are lent */
+    size_t scratch_length, out_length;  /* the buffers that list, spell, genbank and minimal_unique are lent */
 } call;
 
 /* The buffers that a call is lent, of the lengths that it says. */

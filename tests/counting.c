@@ -1,23 +1,21 @@
 /* How often repeats stand, 02 (iii), through the C boundary: the frequency of every row and the two sums of all places, in
  * records of both readings, held against the program that tries every stretch. Every word of up to six letters, put in at the
- * right, at the left, behind letters that go again, and into a record that is turned then; records that move on and are turned
- * now and then, asked after every change; structured words up to full length. Rows that were taken again must be seen to link to
- * higher ones, in either reading. Rows without a repeat are refused, whatever the number; no byte of a store may change.
+ * right, at the left, at both ends, behind letters that go again, and into a record that is turned then; records that move on and
+ * are turned now and then, asked after every change; structured words up to full length. Rows that were taken again must be seen to
+ * link to higher ones, in either reading. Rows without a repeat are refused, whatever the number; no byte of a store may change.
  * Usage: counting [seed] */
 #include "brute.h"
 #include "followed.h"
 #include "guard.h"
 #include "mirror.h"
 #include "random.h"
+#include "words.h"
 #include <stdio.h>
 #include <string.h>
 
-enum { MOST = FOLLOWED_MOST, SHORT = 6 };
-enum { AT_THE_RIGHT, AT_THE_LEFT, BEHIND_OTHERS, TURNED, WAYS };
+enum { MOST = WORD_LENGTH, SHORT = 6 };
 
-static const unsigned char others[] = "GCGCT";
 static uint8_t kept[MIRROR_STORE_SIZE(MOST)];
-static const unsigned char *rule;
 static unsigned long records, rows, free_rows, upward[READINGS], most;
 
 /* ---- one record */
@@ -41,13 +39,13 @@ static size_t ask_row(uint64_t row)
 static void ask_all(void)
 {
     static const uint64_t far[] = {(1ull << 16) + 2, (1ull << 32) + 2, (1ull << 63) + 2, UINT64_MAX};
-    uint64_t by_rows = 0, by_ends = brute_by_ends(rule, record.letters, record.size);
+    uint64_t by_rows = 0, by_ends = brute_by_ends(record.rule, record.letters, record.size);
     memcpy(kept, record.store, record.length);
     for (uint64_t row = 0; row < record.capacity + 4; row++) by_rows += ask_row(row);
     for (size_t i = 0; i < sizeof far / sizeof far[0]; i++) ask_row(far[i]);
     uint64_t answer = mirror_occurrences(record.store, record.length);
     must("all places, summed over the rows", by_rows, mirror_by_rows(answer));
-    must("all places, summed over the words", brute_by_words(rule, record.letters, record.size), mirror_by_rows(answer));
+    must("all places, summed over the words", brute_by_words(record.rule, record.letters, record.size), mirror_by_rows(answer));
     must("all places, summed over the right ends", by_ends, mirror_by_ends(answer));
     must("the bytes below the sums", 0, answer & 0xffff);
     must("a byte of the store changed", 0, memcmp(record.store, kept, record.length) != 0);
@@ -55,31 +53,17 @@ static void ask_all(void)
     if (by_ends > most) most = by_ends;
 }
 
-/* ---- changes */
-
-static void open_record(unsigned reading, size_t capacity)
+/* buffers that end at a guard page and that begin after one, in turn */
+static void other_guards(void)
 {
     guard_at(records % 2 ? GUARD_BEFORE : GUARD_AFTER);
-    followed_open(reading, capacity);
-    rule = brute_rule(reading);
 }
 
-static void turn(void)
+static void one_word(unsigned wanted, const unsigned char *word, size_t n, int way)
 {
-    followed_turn();
-    rule = brute_rule(record.reading);
-}
-
-/* the word as a record that is read so; each way gives its repeats the rows in another order, and behind letters that go again
- * they have rows that were taken before */
-static void make_record(unsigned wanted, const unsigned char *word, size_t n, int way)
-{
-    size_t before = way == BEHIND_OTHERS ? sizeof others - 1 : 0, room = n + before < MOST ? n + before + 1 : MOST;
-    open_record(way == TURNED ? !wanted : wanted, room);
-    for (size_t i = 0; i < before; i++) followed_join(0, others[i]);
-    for (size_t i = 0; i < n; i++) followed_join(way == AT_THE_LEFT, word[way == AT_THE_LEFT ? n - 1 - i : i]);
-    for (size_t i = 0; i < before; i++) followed_leave(1);
-    if (way == TURNED) turn();
+    other_guards();
+    make_record(wanted, word, n, way);
+    ask_all();
 }
 
 /* ---- all of it */
@@ -90,10 +74,7 @@ static void short_words(unsigned wanted)
     for (size_t n = 0; n <= SHORT; n++)
         for (unsigned code = 0; code < 1u << (2 * n); code++) {
             for (size_t i = 0; i < n; i++) word[i] = (unsigned char)"ACGT"[code >> (2 * i) & 3];
-            for (int way = 0; way < WAYS; way++) {
-                make_record(wanted, word, n, way);
-                ask_all();
-            }
+            for (int way = 0; way < WAYS; way++) one_word(wanted, word, n, way);
         }
 }
 
@@ -102,12 +83,13 @@ static void short_words(unsigned wanted)
 static void moving_record(unsigned wanted)
 {
     unsigned alphabet = 1 + random_below(4), steps = 20 + random_below(60), left = 0;
-    open_record(wanted, 1 + random_below(random_below(3) ? 12 : 40));
+    other_guards();
+    followed_open(wanted, 1 + random_below(random_below(3) ? 12 : 40));
     for (unsigned i = 0; i < steps; i++) {
         unsigned char letter = (unsigned char)"ATCG"[random_below(alphabet)];
         if (random_below(12) == 0) left = !left;
-        if (random_below(40) == 0) turn();
-        if (record.size > 0 && random_below(4) == 0) letter = rule[record.letters[left ? record.size - 1 : 0]];
+        if (random_below(40) == 0) followed_turn();
+        if (record.size > 0 && random_below(4) == 0) letter = record.rule[record.letters[left ? record.size - 1 : 0]];
         if (record.size == record.capacity || (record.size > 0 && random_below(6) == 0)) followed_leave(!left);
         followed_join((int)left, letter);
         ask_all();
@@ -118,39 +100,6 @@ static void moving_record(unsigned wanted)
     }
 }
 
-/* ---- long words */
-
-enum { ALL_A, PAIRS, FIBONACCI, THUE_MORSE, TWO_KINDS, FOUR_KINDS, WORDS };
-
-/* the Fibonacci word over A and T or, for an inverted record, over AT and CG: each has about as many repeats as letters */
-static void fibonacci(unsigned wanted, unsigned char *word)
-{
-    size_t last = wanted == PLAIN ? 1 : 2, now = 2 * last;
-    memcpy(word, wanted == PLAIN ? "AT" : "ATCG", now);
-    while (now < MOST) {
-        size_t more = last < MOST - now ? last : MOST - now;
-        memcpy(word + now, word, more);
-        last = now;
-        now += more;
-    }
-}
-
-static unsigned char letter_of(int kind, size_t i)
-{
-    switch (kind) {
-    case ALL_A: return 'A';
-    case PAIRS: return (unsigned char)"AT"[i % 2];
-    case THUE_MORSE: return (unsigned char)"CG"[__builtin_parityl(i)];
-    default: return (unsigned char)"ATCG"[random_below(kind == TWO_KINDS ? 2 : 4)];
-    }
-}
-
-static void choose_word(int kind, unsigned wanted, unsigned char *word)
-{
-    for (size_t i = 0; kind != FIBONACCI && i < MOST; i++) word[i] = letter_of(kind, i);
-    if (kind == FIBONACCI) fibonacci(wanted, word);
-}
-
 /* more rows than a byte can number; the fewest A of which all places are more than two bytes can number; a full record */
 static void long_words(unsigned wanted)
 {
@@ -158,10 +107,8 @@ static void long_words(unsigned wanted)
     static unsigned char word[MOST];
     for (int kind = 0; kind < WORDS; kind++) {
         choose_word(kind, wanted, word);
-        for (size_t i = 0; i < sizeof lengths / sizeof lengths[0]; i++) {
-            make_record(wanted, word, lengths[i], (int)((size_t)kind + i) % (lengths[i] == MOST ? 2 : WAYS));
-            ask_all();
-        }
+        for (size_t i = 0; i < sizeof lengths / sizeof lengths[0]; i++)
+            one_word(wanted, word, lengths[i], (int)((size_t)kind + i) % (lengths[i] == MOST ? 2 : WAYS));
     }
 }
 

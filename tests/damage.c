@@ -62,8 +62,10 @@ static void one_call(const call *c)
 static void every_call(void)
 {
     static const unsigned char piece[] = "ATAT", bad_piece[] = "AN", name[] = "rec_1", bad_name[] = "rec-1";
+    static stretch list[LAYOUT_MOST];
     unsigned row = random_below((unsigned)shows.capacity + 3), letter = (unsigned)"ACGT"[random_below(4)];
     size_t out = 64 * 1024 - random_below(2), scratch = layout_scratch(shows.size), page = MIRROR_GENBANK_SIZE(shows.size);
+    size_t unique = STRETCH_BYTES * brute_minimal_unique(shows.rule, shows.letters, shows.size, list); /* before the damage */
     for (call_kind kind = ADD_LEFT; kind < CALL_KINDS; kind++) {
         int of_row = kind == ROW || kind == FREQUENCY || kind == SPELL;
         call c = {kind, kind == LETTER ? random_below((unsigned)shows.size + 1) : of_row ? row : letter, NULL, 0, 0, 0};
@@ -71,6 +73,7 @@ static void every_call(void)
         if (kind == SPELL) c.out_length = shows.size + random_below(3);
         if (kind == LIST) c.text = name, c.text_length = 5, c.scratch_length = scratch + random_below(3), c.out_length = out;
         if (kind == GENBANK) c.out_length = page + random_below(3);
+        if (kind == MINIMAL_UNIQUE) c.out_length = unique + random_below(6);
         one_call(&c);
         if (kind >= REMOVE_LEFT && kind < LETTER) continue; /* no argument: it would be the same call again */
         c.number = kind <= ADD_RIGHT ? letter + 256 : 65536 + row;
@@ -79,6 +82,7 @@ static void every_call(void)
         if (kind == LIST) c.text = random_below(4) ? name : bad_name, c.scratch_length = scratch - (scratch > 0);
         if (kind == LIST) c.out_length = random_below(2) ? MIRROR_LIST_SIZE(shows.size) : random_below(20);
         if (kind == GENBANK) c.out_length = random_below(2) ? page - 1 : random_below((unsigned)page);
+        if (kind == MINIMAL_UNIQUE) c.out_length = unique > 0 && random_below(2) ? unique - 1 : random_below((unsigned)unique + 1);
         one_call(&c);
     }
 }

@@ -39,6 +39,7 @@ static void no_store(uint8_t *p)
     must("find", mirror_find(p, 0, p, 0), MIRROR_DAMAGED);
     must("list", mirror_list(p, 0, p, 0, p, 0, p, 0), MIRROR_DAMAGED);
     must("genbank", mirror_genbank(p, 0, p, 0), MIRROR_DAMAGED);
+    must("minimal_unique", mirror_minimal_unique(p, 0, p, 0), MIRROR_DAMAGED);
 }
 
 /* every other buffer empty at p, with an empty record and with one of a letter */
@@ -50,13 +51,15 @@ static void no_buffer(uint8_t *p)
     must("no identifier", mirror_list(store, sizeof store, p, 0, p, 0, p, 0), MIRROR_IDENTIFIER);
     must("an empty list", mirror_list(store, sizeof store, (const uint8_t *)"e1", 2, p, 0, p, 0), 0);
     must("print an empty record", mirror_genbank(store, sizeof store, p, 0), MIRROR_NO_ROOM);
+    must("no minimal unique repeat of nothing", mirror_minimal_unique(store, sizeof store, p, 0), 0);
     mirror_add_right(store, sizeof store, 'A');
     must("print a letter", mirror_genbank(store, sizeof store, p, 0), MIRROR_NO_ROOM);
+    must("a letter that stands once", mirror_minimal_unique(store, sizeof store, p, 0), MIRROR_NO_ROOM);
     must("spell a letter", mirror_spell(store, sizeof store, 2, p, 0), MIRROR_NO_ROOM);
     must("list a letter", mirror_list(store, sizeof store, (const uint8_t *)"e1", 2, p, 0, p, 0), MIRROR_NO_ROOM);
 }
 
-/* an inverted record of a letter has no repeat: it is listed with scratch and no output */
+/* an inverted record of a letter has no repeat: it is listed with scratch and no output, and none is minimal unique */
 static void no_repeat(uint8_t *p)
 {
     uint8_t scratch[1];
@@ -65,6 +68,7 @@ static void no_repeat(uint8_t *p)
     mirror_add_right(store, sizeof store, 'A');
     must("no scratch", mirror_list(store, sizeof store, (const uint8_t *)"e1", 2, p, 0, p, 0), MIRROR_NO_ROOM);
     must("no output", mirror_list(store, sizeof store, (const uint8_t *)"e1", 2, scratch, sizeof scratch, p, 0), 0);
+    must("no minimal unique repeat", mirror_minimal_unique(store, sizeof store, p, 0), 0);
 }
 
 /* texts and letters at p */

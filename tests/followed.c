@@ -22,9 +22,15 @@ static void done(uint64_t answer)
     must("a change is refused", 0, mirror_refusal(answer));
 }
 
-void followed_open(unsigned reading, size_t capacity)
+static void read_as(unsigned reading)
 {
     record.reading = reading;
+    record.rule = brute_rule(reading);
+}
+
+void followed_open(unsigned reading, size_t capacity)
+{
+    read_as(reading);
     record.size = 0;
     record.capacity = capacity;
     record.length = MIRROR_STORE_SIZE(capacity);
@@ -49,6 +55,6 @@ void followed_leave(int left)
 
 void followed_turn(void)
 {
-    record.reading = record.reading == PLAIN ? INVERTED : PLAIN;
+    read_as(record.reading == PLAIN ? INVERTED : PLAIN);
     done((record.reading == PLAIN ? mirror_turn_plain : mirror_turn_inverted)(record.store, record.length));
 }

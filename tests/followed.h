@@ -11,6 +11,7 @@ extern struct followed {
     uint8_t *store; /* in the guard's slot FOLLOWED_SLOT */
     size_t length, capacity, size;
     unsigned reading;
+    const unsigned char *rule; /* the partners of its reading */
     unsigned char letters[FOLLOWED_MOST];
 } record;
 

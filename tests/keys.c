@@ -3,8 +3,8 @@
  * A key is compared as it stands in the table, and no other program is asked. Beside the table: small letters are refused,
  * the keys of inverted records that 02 (vi) and source 004 have, records that are turned, 02 (vii), how many repeats of each
  * length a store carries, 02 (ii), what additions report of their search, 02 (xiii), where a piece breaks, 02 (x), how much
- * scratch the list takes, 02 (ix), how often repeats stand, 02 (iii), and the record printed as in GenBank, 02 (iv), each page written
- * out here byte by byte. Keys that ask for no repeat are run with either opening. */
+ * scratch the list takes, 02 (ix), how often repeats stand, 02 (iii), the minimal unique repeats, 02 (viii), and the record printed as
+ * in GenBank, 02 (iv), each page written out here byte by byte. Keys that ask for no repeat are run with either opening. */
 #include "mirror.h"
 #include <stdio.h>
 #include <stdlib.h>
@@ -97,6 +97,25 @@ static void printed(const char *page)
     }
 }
 
+/* where the minimal unique repeats stand, as in the key, start-end with a blank between two: two bytes for each number, low byte first,
+ * into just these bytes and into more; a byte fewer is refused */
+static void minimal(const char *stretches)
+{
+    uint8_t wanted[32], out[sizeof wanted + 9];
+    size_t n = 0;
+    for (char *at = (char *)stretches; *at; at += *at != 0) {
+        unsigned long number = strtoul(at, &at, 10);
+        wanted[n++] = (uint8_t)(number % 256);
+        wanted[n++] = (uint8_t)(number / 256);
+    }
+    for (size_t room = n - (n > 0); room <= n + 8; room++) {
+        memset(out, '?', sizeof out);
+        key("how many are minimal unique", room < n ? 9 : (uint64_t)(n / 4) << 32, mirror_minimal_unique(store, length, out, room));
+        key(stretches, 0, room >= n && memcmp(out, wanted, n) != 0);
+        for (size_t i = room < n ? 0 : n; i < n + 9; i++) key("a byte that is not of them", '?', out[i]);
+    }
+}
+
 /* ---- without a star */
 
 static void empty_at_every_capacity(opening *open)
@@ -109,6 +128,7 @@ static void empty_at_every_capacity(opening *open)
         key("occurrences", 0, mirror_occurrences(store, length));
         key("frequency of row 2", 7, mirror_frequency(store, length, 2));
         printed("ORIGIN\n//\n");
+        minimal("");
     }
 }
 
@@ -737,6 +757,132 @@ static void places_of_pairs(void)
     places(262656);
 }
 
+/* ---- minimal unique repeats, 02 (viii) */
+
+/* a letter that stands once, a double that does; AAA, within which A stands three times; not ACCA, within which CC stands once */
+static void minimal_of_short_records(uint64_t capacity, int from_left)
+{
+    static const struct { const char *letters, *stretches; } keys[] = {
+        {"", ""}, {"A", "0-1"}, {"AA", "0-2"}, {"AAA", "0-3"}, {"AAAA", "0-4"}, {"AC", "0-1 1-2"}, {"CAC", "1-2"}, {"ACAC", "0-3 1-4"},
+        {"ACGA", "1-2 2-3"}, {"ACGT", "0-1 1-2 2-3 3-4"}, {"ACCA", "1-3"}, {"ACCACG", "1-3 2-5 5-6"}, {"ACGAAG", "1-2 3-5"}};
+    for (size_t i = 0; i < sizeof keys / sizeof keys[0]; i++) {
+        record(mirror_open, keys[i].letters, capacity, from_left);
+        minimal(keys[i].stretches);
+    }
+}
+
+/* the words of 001's figure 1 and example 3.2, of sitting 14 and, at last, of 003's figure 1, of which letters go at either end */
+static void minimal_of_longer_records(uint64_t capacity, int from_left)
+{
+    record(mirror_open, "AACGCAA", capacity, from_left);
+    minimal("3-4");
+    record(mirror_open, "AACAACAACA", capacity, from_left);
+    minimal("0-8 2-9");
+    record(mirror_open, "AACACCAACACAC", capacity, from_left);
+    minimal("4-6 5-9 7-12 8-13");
+    record(mirror_open, "AAACACACACCACC", capacity, from_left);
+    minimal("0-3 2-9 3-10 8-12 9-14");
+    goes(1, 'A', "AAA");
+    minimal("0-2 1-8 2-9 7-11 8-13"); /* now AA stands once */
+    goes(1, 'A', "AA");
+    minimal("0-7 1-8 6-10 7-12");
+    key("ACCACCA is new", 1, mirror_flag(mirror_add_right(store, length, 'A')));
+    minimal("0-7 1-8 5-11 7-12"); /* ACCA stands twice, so CACCAC is one */
+    goes(0, 'A', "ACCACCA");
+    goes(0, 'C', "CCACC");
+    minimal("0-7 1-8 7-9"); /* CC stands once again */
+}
+
+/* an inverted record, in which only stretches of even length are repeats; then the same letters turned, and turned back */
+static void minimal_of_inverted_records(uint64_t capacity, int from_left)
+{
+    static const struct { const char *letters, *stretches; } keys[] = {
+        {"", ""}, {"A", ""}, {"AAAA", ""}, {"AT", "0-2"}, {"ATAT", "1-3"}, {"ATATAT", "1-5"}, {"AGTCT", ""}, {"GAATTC", "2-4"}};
+    for (size_t i = 0; i < sizeof keys / sizeof keys[0]; i++) {
+        record(mirror_open_inverted, keys[i].letters, capacity, from_left);
+        minimal(keys[i].stretches);
+    }
+    key("turn plain", 0, mirror_turn_plain(store, length));
+    minimal("0-1 1-3 3-5 5-6");
+    key("turn inverted", 0, mirror_turn_inverted(store, length));
+    minimal("2-4");
+    if (capacity < 12) return;
+    record(mirror_open_inverted, "ACCTGCAGGT", capacity, from_left);
+    minimal("4-6");
+    record(mirror_open_inverted, "GAATTCGAATTC", capacity, from_left);
+    minimal("5-7"); /* AT, AATT and GAATTC stand twice */
+}
+
+/* letters that come and go at either end, so that every place moves, rows are taken again, and what stood once stands twice */
+static void minimal_of_changes(uint64_t capacity)
+{
+    record(mirror_open, "ACGA", capacity, 0);
+    goes(1, 'A', NULL);
+    minimal("0-1 1-2 2-3");
+    goes(1, 'C', "C");
+    minimal("0-1 1-2");
+    key("GAA: AA takes the row of C", 1ull << 8 | 3ull << 16, mirror_add_right(store, length, 'A') & 0xffffffff);
+    minimal("0-1 1-3");
+    key("AGAA", 1, mirror_flag(mirror_add_left(store, length, 'A')));
+    minimal("1-2 2-4"); /* not AGA, for G stands once */
+    key("GAGAA: G stands twice", 1, mirror_flag(mirror_add_left(store, length, 'G')));
+    minimal("0-3 1-4 3-5");
+    for (int i = 0; i < 5; i++) key("remove right", 0, mirror_refusal(mirror_remove_right(store, length)));
+    minimal("");
+}
+
+/* full records: one that is a repeat as a whole, two that miss it by a letter, and starts and ends of which both bytes matter */
+static void minimal_of_full_records(int from_left)
+{
+    static const uint8_t bytes[] = {0x2c, 0x01, 0x2d, 0x01, 0x2d, 0x01, 0x00, 0x04}; /* 300 to 301, 301 to 1024 */
+    char letters[1025] = "";
+    uint8_t out[4096];
+    memset(letters, 'A', 1024);
+    record(mirror_open, letters, 1024, from_left);
+    minimal("0-1024");
+    key("turn inverted", 0, mirror_turn_inverted(store, length));
+    minimal("");
+    letters[300] = 'C';
+    record(mirror_open, letters, 1024, from_left);
+    minimal("300-301 301-1024");
+    memset(out, '?', sizeof out);
+    key("into 4,096 bytes", 2ull << 32, mirror_minimal_unique(store, length, out, sizeof out));
+    key("their bytes", 0, memcmp(out, bytes, sizeof bytes) != 0);
+    key("the first start", 300, mirror_start(out, 0));
+    key("the first end", 301, mirror_end(out, 0));
+    key("the second start", 301, mirror_start(out, 1));
+    key("the second end", 1024, mirror_end(out, 1));
+    for (size_t i = sizeof bytes; i < sizeof out; i++) key("a byte behind them", '?', out[i]);
+    for (size_t i = 0; i < 1024; i++) letters[i] = "AT"[i % 2];
+    record(mirror_open, letters, 1024, from_left);
+    minimal("0-1023 1-1024");
+    key("turn inverted", 0, mirror_turn_inverted(store, length));
+    minimal("1-1023");
+}
+
+/* what the header says is always enough: four bytes for each letter */
+static void room_for_minimal(void)
+{
+    static const struct { size_t letters, bytes; } rooms[] = {{0, 0}, {1, 4}, {63, 252}, {64, 256}, {1024, 4096}};
+    for (size_t i = 0; i < sizeof rooms / sizeof rooms[0]; i++) key("room enough", rooms[i].bytes, MIRROR_MINIMAL_UNIQUE_SIZE(rooms[i].letters));
+}
+
+/* a store that is not good is refused before the room is looked at, and no byte is written */
+static void minimal_of_damaged_stores(opening *open)
+{
+    uint8_t out[64];
+    record(open, "GAATTC", 8, 0);
+    store[24 * 10 + 2] = 'a'; /* the third letter, by docs/LAYOUT.md */
+    memset(out, '?', sizeof out);
+    memcpy(before, store, sizeof store);
+    for (size_t room = 0; room <= sizeof out; room++) key("minimal unique in what is not good", 3, mirror_minimal_unique(store, length, out, room));
+    key("the store stays", 0, memcmp(before, store, sizeof store) != 0);
+    store[24 * 10 + 2] = 'A';
+    key("minimal unique in a store too short", 3, mirror_minimal_unique(store, length - 1, out, 0));
+    for (size_t i = 0; i < sizeof out; i++) key("every byte stays", '?', out[i]);
+    minimal(open == mirror_open ? "0-1 1-3 3-5 5-6" : "2-4");
+}
+
 /* ---- printed as in GenBank, 02 (iv) */
 
 /* the first n of these letters as a record, and its page; the page is the same in either reading */
@@ -845,6 +991,7 @@ static void either_reading(opening *open)
     pages_of_changes(open);
     longest_page(open);
     pages_of_damaged_stores(open);
+    minimal_of_damaged_stores(open);
 }
 
 int main(void)
@@ -887,9 +1034,21 @@ int main(void)
         places_of_rows_taken_again(capacities[k]);
         rows_without_places(capacities[k]);
     }
-    for (int from_left = 0; from_left < 2; from_left++) most_places(from_left);
+    for (size_t k = 0; k < sizeof capacities / sizeof capacities[0]; k++) {
+        for (int from_left = 0; from_left < 2; from_left++) {
+            minimal_of_short_records(capacities[k], from_left);
+            if (capacities[k] >= 14) minimal_of_longer_records(capacities[k], from_left);
+            minimal_of_inverted_records(capacities[k], from_left);
+        }
+        minimal_of_changes(capacities[k]);
+    }
+    for (int from_left = 0; from_left < 2; from_left++) {
+        most_places(from_left);
+        minimal_of_full_records(from_left);
+    }
     places_of_rows_taken_again(2);
     places_of_pairs();
+    room_for_minimal();
     lengths_of_pages();
     longest_of_all();
     longest_search();

@@ -1,5 +1,5 @@
-/* The store's bytes by docs/LAYOUT.md, for the tests that look into a store, and the list's scratch by docs/HOST.md: nothing
- * here comes from the library or its header. */
+/* The store's bytes by docs/LAYOUT.md, for the tests that look into a store, and by docs/HOST.md the list's scratch and the bytes of
+ * a list of minimal unique repeats: nothing here comes from the library or its header. */
 #ifndef LAYOUT_H
 #define LAYOUT_H
 #include <stddef.h>
@@ -45,5 +45,17 @@ static inline size_t layout_size(size_t capacity)
 static inline size_t layout_scratch(size_t letters)
 {
     return letters / 8 + (letters % 8 > 0);
+}
+
+enum { STRETCH_BYTES = 4 };
+
+/* the i-th stretch of a list of minimal unique repeats: its start and its end, two bytes each, low byte first */
+static inline void layout_stretch(uint8_t *out, size_t i, size_t start, size_t end)
+{
+    uint8_t *at = out + STRETCH_BYTES * i;
+    at[0] = (uint8_t)start;
+    at[1] = (uint8_t)(start >> 8);
+    at[2] = (uint8_t)end;
+    at[3] = (uint8_t)(end >> 8);
 }
 #endif

@@ -270,6 +270,24 @@ static void ask_page(void)
     }
 }
 
+/* the minimal unique repeats into a byte too few, if they take any, into just their bytes, and with one to spare */
+static void ask_minimal_unique(void)
+{
+    static stretch list[MODEL_MOST];
+    static uint8_t bytes[STRETCH_BYTES * MODEL_MOST];
+    size_t n = brute_minimal_unique(rule, letters, length, list), need = STRETCH_BYTES * n;
+    for (size_t i = 0; i < n; i++) layout_stretch(bytes, i, list[i].start, list[i].end);
+    for (size_t room = need - (need > 0); room <= need + 1; room++) {
+        uint8_t *out = guard_room(OUT_SLOT, room);
+        size_t written = room < need ? 0 : need;
+        memset(out, 5, room);
+        same("minimal unique", room < need ? 9 : packed(0, 0, n, 0), mirror_minimal_unique(store, store_length, out, room));
+        model_facts++;
+        if (memcmp(out, bytes, written) != 0) fail("where the minimal unique repeats stand", 0, 1);
+        for (size_t i = written; i < room; i++) same("minimal unique: bytes beyond, or after a refusal", 5, out[i]);
+    }
+}
+
 /* the longest at an end: its row, whether it stands once only, and how often; where there is none row 1, which has no places */
 static void ask_end(const char *what, const unsigned char *w, size_t n, uint64_t answer)
 {
@@ -339,6 +357,7 @@ void model_ask(void)
     ask_pieces();
     ask_list();
     ask_page();
+    ask_minimal_unique();
     unchanged("a question changed the store");
 }
 

@@ -16,7 +16,7 @@ static const char *verdict;
 static uint8_t before[LENT];
 static const library linked = LIBRARY_OF_THIS_PROGRAM;
 static buffers lent;
-static char wanted_out[64 * 1024];
+static uint8_t wanted_out[64 * 1024];
 
 const char *oracle_verdict(void)
 {
@@ -134,7 +134,7 @@ static uint64_t list_answer(const call *c)
     }
     size_t n = brute_list(was.rule, was.letters, was.size, list), size = 0;
     for (size_t i = 0; i < n; i++)
-        size += (size_t)sprintf(wanted_out + size, "%.*s\t%zu\t%zu\n", (int)c->text_length, (const char *)c->text, list[i].start, list[i].end);
+        size += (size_t)sprintf((char *)wanted_out + size, "%.*s\t%zu\t%zu\n", (int)c->text_length, (const char *)c->text, list[i].start, list[i].end);
     if (c->out_length < size || c->scratch_length < layout_scratch(was.size)) return 9;
     return packed(0, 0, size, 0);
 }
@@ -142,8 +142,17 @@ static uint64_t list_answer(const call *c)
 /* the page takes just the bytes that it has, and nothing else is asked of the buffer */
 static uint64_t page_answer(const call *c)
 {
-    size_t size = second_page(was.letters, was.size, wanted_out);
+    size_t size = second_page(was.letters, was.size, (char *)wanted_out);
     return c->out_length < size ? 9 : packed(0, 0, size, 0);
+}
+
+/* as many as there are is answered, and each takes its bytes */
+static uint64_t minimal_unique_answer(const call *c)
+{
+    static stretch list[LAYOUT_MOST];
+    size_t n = brute_minimal_unique(was.rule, was.letters, was.size, list);
+    for (size_t i = 0; i < n; i++) layout_stretch(wanted_out, i, list[i].start, list[i].end);
+    return c->out_length < STRETCH_BYTES * n ? 9 : packed(0, 0, n, 0);
 }
 
 static uint64_t wanted_answer(const call *c)
@@ -163,20 +172,28 @@ static uint64_t wanted_answer(const call *c)
     case FIND: return find_answer(c);
     case LIST: return list_answer(c);
     case GENBANK: return page_answer(c);
+    case MINIMAL_UNIQUE: return minimal_unique_answer(c);
     default: return change_answer(c);
     }
+}
+
+/* how many bytes an accepted call wrote */
+static size_t written_by(const call *c, uint64_t answer)
+{
+    size_t first = answer >> 32 & 0xffff;
+    if (c->kind == MINIMAL_UNIQUE) return STRETCH_BYTES * first;
+    return c->kind == LIST || c->kind == SPELL || c->kind == GENBANK ? first : 0;
 }
 
 /* the lent buffers: what must be written is, and every other byte is as it was lent */
 static void check_buffers(const call *c, size_t length, uint64_t answer)
 {
     int done = (answer & 0xff) == 0;
-    int writes = c->kind == LIST || c->kind == SPELL || c->kind == GENBANK;
-    size_t written = done && writes ? (answer >> 32 & 0xffff) : 0;
+    size_t written = done ? written_by(c, answer) : 0;
     size_t cleared = done && c->kind == LIST ? layout_scratch(was.size) : 0;
     if (c->text_length && memcmp(lent.text, c->text, c->text_length) != 0) fail(c, "the piece or identifier changed", 0, 1, length);
     for (size_t i = 0; i < c->out_length; i++) {
-        uint8_t wanted = i < written ? (uint8_t)wanted_out[i] : 0x5a;
+        uint8_t wanted = i < written ? wanted_out[i] : 0x5a;
         if (lent.out[i] != wanted) fail(c, "output byte", wanted, lent.out[i], length);
     }
     for (size_t i = 0; i < c->scratch_length; i++)

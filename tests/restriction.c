@@ -4,9 +4,9 @@
  * alone. Some are opened inverted; others plain, where no site of the first kind is found, and are turned to the inverted
  * reading then. An absent site is told with the pair at which it breaks, in the record's reading; a site that is found has as many
  * places as it stands at. The longest length is that of the longest stretch that reads alike, and all places are as many as there
- * are such stretches. The page of a record has its letters, in small ones, as a program would read them that passes over all else.
- * Whether letters read alike is tried here in a few lines, and no other test's program is asked. A wrong answer is told on standard
- * error, and the program ends with 1. */
+ * are such stretches. Minimal unique are those that stand once and have nothing within, or what stands again. The page of a record
+ * has its letters, in small ones, as a program would read them that passes over all else. Whether letters read alike is tried here
+ * in a few lines, and no other test's program is asked. A wrong answer is told on standard error, and the program ends with 1. */
 #include "mirror.h"
 #include "random.h"
 #include <ctype.h>
@@ -58,7 +58,7 @@ static uint8_t store[MIRROR_STORE_SIZE(2 * MOST)];
 static size_t length;
 static char letters[MOST + 1]; /* what the record must hold */
 static const entry *at_hand;
-static unsigned long answers;
+static unsigned long answers, minimal;
 
 static void key(const char *what, uint64_t wanted, uint64_t got)
 {
@@ -167,6 +167,25 @@ static uint64_t places(const char *piece, size_t n)
     return found;
 }
 
+/* the stretches that read alike, stand once, and have no letter or what stands again between their first and their last letter */
+static void minimal_unique(void)
+{
+    uint8_t wanted[4 * MOST], got[4 * MOST];
+    size_t n = strlen(letters), bytes = 0;
+    for (size_t start = 0; start < n; start++)
+        for (size_t end = start + 2; end <= n; end += 2) { /* no stretch of odd length reads alike */
+            const char *w = letters + start;
+            if (!reads_alike(w, end - start) || places(w, end - start) != 1) continue;
+            if (end - start > 2 && places(w + 1, end - start - 2) == 1) continue;
+            wanted[bytes++] = (uint8_t)start, wanted[bytes++] = 0; /* no place of these records is above 255 */
+            wanted[bytes++] = (uint8_t)end, wanted[bytes++] = 0;
+        }
+    if (bytes > 0) key("minimal unique, a byte too few", MIRROR_NO_ROOM, mirror_minimal_unique(store, length, got, bytes - 1));
+    key("minimal unique", (uint64_t)(bytes / 4) << 32, mirror_minimal_unique(store, length, got, bytes));
+    key("where they stand", 0, memcmp(wanted, got, bytes) != 0);
+    minimal += bytes / 4;
+}
+
 /* the piece is found, its row has its length, stands as often as it does and spells it */
 static void is_found(const char *piece, size_t n)
 {
@@ -240,14 +259,17 @@ static void between_flanks(const entry *e, int at_both_ends, int turned)
     every_site(uneven, UNEVEN, 1);
     longest_length();
     all_places();
+    minimal_unique();
     take_apart(before, after);
     every_site(even, EVEN, 1);
     every_site(uneven, UNEVEN, 1);
     longest_length();
     all_places();
+    minimal_unique();
     take_apart(m / 2, m - m / 2);
     key("repeats of no letters", 0, mirror_count(store, length));
     key("places of no letters", 0, mirror_occurrences(store, length));
+    key("minimal unique of no letters", 0, mirror_minimal_unique(store, length, NULL, 0));
     key("longest length of no letters", 0, mirror_longest_length(store, length));
 }
 
@@ -279,6 +301,7 @@ static void alone(const entry *e, int found)
         mirror_list(store, length, (const uint8_t *)e->enzyme, strlen(e->enzyme), scratch, sizeof scratch, (uint8_t *)got, bytes));
     key("list", 0, memcmp(wanted, got, bytes) != 0);
     longest_length();
+    minimal_unique();
     if (!found) {
         is_absent(e->site, n, 1);
         return;
@@ -302,6 +325,7 @@ static void in_a_plain_record(const entry *e)
     record(mirror_open, 0);
     turn_inverted();
     is_found(e->site, strlen(e->site));
+    minimal_unique();
     key("turn back", 0, mirror_turn_plain(store, length));
     holds_the_letters();
     every_site(even, EVEN, 0);
@@ -324,6 +348,7 @@ int main(void)
     random_seed(NULL, 20261117);
     table(even, EVEN, 1);
     table(uneven, UNEVEN, 0);
-    printf("%d sites that read alike on both strands are found, %d others absent: %lu answers\n", (int)EVEN, (int)UNEVEN, answers);
+    printf("%d sites that read alike on both strands are found, %d others absent, %lu repeats are minimal unique: %lu answers\n", (int)EVEN,
+           (int)UNEVEN, minimal, answers);
     return 0;
 }

@@ -208,6 +208,16 @@ static void say_page(const char *room, char *said)
     for (size_t i = 0; i < n; i++) said += sprintf(said, page[i] == '\n' ? "<br>" : "%c", page[i]);
 }
 
+/* where the minimal unique ones stand; here too the bytes that a call names must be enough, four for each */
+static void say_minimal(const char *room, char *said)
+{
+    stretch all[MOST];
+    size_t n = brute_minimal_unique(rule, letters, size, all);
+    if (*room && strtoul(room, NULL, 10) < 4 * n) fail("a list into too few bytes", "accepted", room);
+    if (n == 0) strcpy(said, "none");
+    for (size_t i = 0; i < n; i++) said += sprintf(said, "%s%zu to %zu", i ? ", " : "", all[i].start, all[i].end);
+}
+
 /* what every stretch answers to a question */
 static void ask(const char *call, char *said)
 {
@@ -228,6 +238,7 @@ static void ask(const char *call, char *said)
     else if (strncmp(call, "find ", 5) == 0) say_found(about, said);
     else if (strncmp(call, "list ", 5) == 0) say_list(all, repeats, said);
     else if (strcmp(call, "genbank") == 0 || strncmp(call, "genbank ", 8) == 0) say_page(about, said);
+    else if (strcmp(call, "minimal") == 0 || strncmp(call, "minimal ", 8) == 0) say_minimal(about, said);
     else fail("a call", call, "none");
 }
 

@@ -31,7 +31,7 @@ use Rattle.store.proofs.Sizes.{letters-length}
 use Rattle.transitions.proofs.Rows.{covers, row-below}
 use Rattle.walk.specs.Replay.{endingIn, newAt, Holds}
 use Rattle.walk.proofs.Reading.{read-whole, root-old, met-other, met-ending, ending-row}
-use Rattle.frequencies.specs.Frequencies.{FirstRows}
+use Rattle.end_rows.specs.EndRows.{FirstRows}
 use Rattle.frequencies.specs.Counts.{weigh, endsWith, openWith, HandedFrom}
 use Rattle.frequencies.proofs.Weigh.{counted, weigh-set, weigh-agree, weigh-noughts}
 

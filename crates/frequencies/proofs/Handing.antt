@@ -36,7 +36,8 @@ use Rattle.transitions.proofs.Rows.{covers, used-root, row-below, size-most}
 use Rattle.walk.specs.Replay.{endingIn, newAt, Holds}
 use Rattle.walk.proofs.Reading.{read-more, read-stands, read-whole, met-other, met-ending, ending-row}
 use Rattle.walk.proofs.Links.{Linked, linked}
-use Rattle.frequencies.specs.Frequencies.{RowFrequencies, FirstRows}
+use Rattle.end_rows.specs.EndRows.{FirstRows}
+use Rattle.frequencies.specs.Frequencies.{RowFrequencies}
 use Rattle.frequencies.specs.Counts.{weigh, endsWith, openWith, HandedFrom, Handable, handed, handedOn}
 use Rattle.frequencies.proofs.Counting.{none-stands}
 use Rattle.frequencies.proofs.Weigh.{counted, weigh-set, weigh-agree, weigh-without, weigh-none, weigh-least}

@@ -11,7 +11,7 @@ use Rattle.palindromes.specs.Palindrome.{Palindrome}
 use Rattle.palindromes.specs.Place.{Stands, frequency, stands}
 use Rattle.palindromes.specs.Record.{suffixes}
 use Rattle.palindromes.specs.Node.{spelt, spellingOf}
-use Rattle.store.specs.Layout.{sizeIn, usedIn, linkIn, lettersIn}
+use Rattle.store.specs.Layout.{usedIn, linkIn, lettersIn}
 use Rattle.store.specs.Good.{ruleOf, nodeIn}
 
 -- the numbers at the places that pass the test, added up

@@ -5,8 +5,8 @@ ghost use lib.ListN.{replicate};
 ghost use Rattle.palindromes.specs.Occurrences.{occurrencesByRow};
 ghost use Rattle.store.specs.Layout.{sizeIn, lettersIn};
 ghost use Rattle.store.specs.Good.{ruleOf, Good};
-ghost use Rattle.end_rows.specs.EndRows.{EndRows};
-ghost use Rattle.frequencies.specs.Frequencies.{RowFrequencies, FirstRows};
+ghost use Rattle.end_rows.specs.EndRows.{EndRows, FirstRows};
+ghost use Rattle.frequencies.specs.Frequencies.{RowFrequencies};
 ghost use Rattle.frequencies.specs.Counts.{HandedFrom, Handable, handed, handedOn};
 use store::header;
 use store::rows;
@@ -68,20 +68,6 @@ fn add_along_links(b: &[u8], firsts: &[u16], counts: &mut [u16]) -> usize
     total
 }
 
-// Makes the numbers, which begin empty, the frequencies of the rows, and answers their sum. The rows at
-// the right ends become those that are first met there.
-pub fn row_frequencies(b: &[u8], ends: &mut [u16], counts: &mut [u16]) -> usize
-    requires { ⌜ Good (now b) ⌝ }
-    requires { ⌜ EndRows (now b) (now ends) ⌝ }
-    requires { ⌜ now counts ≡ replicate 1026 0 ⌝ }
-    ensures first { λ _. ⌜ FirstRows (now (b .entry)) (now (ends .exit)) ⌝ }
-    ensures each { λ _. ⌜ RowFrequencies (now (b .entry)) (now (counts .exit)) ⌝ }
-    ensures total { λ r. ⌜ r ≡ occurrencesByRow (ruleOf (now (b .entry))) (lettersIn (now (b .entry))) ⌝ }
-{
-    count_longest(b, ends, counts);
-    add_along_links(b, ends, counts)
-}
-
 // How many palindromes stand, counted row by row. The rows at the right ends are used up.
 pub fn occurrences_by_row(b: &[u8], ends: &mut [u16]) -> usize
     requires { ⌜ Good (now b) ⌝ }
@@ -89,5 +75,6 @@ pub fn occurrences_by_row(b: &[u8], ends: &mut [u16]) -> usize
     ensures { λ r. ⌜ r ≡ occurrencesByRow (ruleOf (now (b .entry))) (lettersIn (now (b .entry))) ⌝ }
 {
     let mut counts = [0u16; 1026];
-    row_frequencies(b, ends, &mut counts)
+    count_longest(b, ends, &mut counts);
+    add_along_links(b, ends, &mut counts)
 }

@@ -16,11 +16,11 @@ use Rattle.palindromes.proofs.Tests.{false-not-true}
 use Rattle.palindromes.proofs.Places.{stands-true}
 use Rattle.palindromes.proofs.MinimalUniqueList.{metTo, minimal-by-end, stood-before, met-old, met-new, met-more}
 use Rattle.store.specs.Layout.{sizeIn, usedIn, lettersIn}
-use Rattle.store.specs.Good.{ruleOf, nodeIn, Good}
+use Rattle.store.specs.Good.{ruleOf, Good}
 use Rattle.store.proofs.Sizes.{letters-length}
 use Rattle.transitions.proofs.Rows.{used-root}
 use Rattle.walk.specs.Replay.{endingIn, newAt, Holds}
-use Rattle.frequencies.specs.Frequencies.{FirstRows}
+use Rattle.end_rows.specs.EndRows.{FirstRows}
 use Rattle.minimal_unique.proofs.Rows.{minimalIn, root-not}
 
 -- those of the first k right ends

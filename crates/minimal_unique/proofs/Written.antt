@@ -18,7 +18,7 @@ use Rattle.store.specs.Good.{ruleOf, nodeIn, Good}
 use Rattle.store.proofs.Parts.{sets-append}
 use Rattle.walk.specs.Replay.{endingIn}
 use Rattle.walk.proofs.Reading.{ending-length, ending-most}
-use Rattle.frequencies.specs.Frequencies.{FirstRows}
+use Rattle.end_rows.specs.EndRows.{FirstRows}
 use Rattle.minimal_unique.proofs.Rows.{minimalIn}
 use Rattle.minimal_unique.proofs.Ends.{listedTo, listed-old, listed-new, one-more, listed-most, first-holds}
 

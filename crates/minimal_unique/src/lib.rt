@@ -9,46 +9,39 @@ ghost use lib.Seq.{sets};
 ghost use Rattle.palindromes.specs.Node.{spellingOf};
 ghost use Rattle.palindromes.specs.Interval.{interval, intervalBytes};
 ghost use Rattle.palindromes.specs.MinimalUnique.{isMinimalUnique, minimalUnique};
-ghost use Rattle.store.specs.Layout.{usedIn, lettersIn};
+ghost use Rattle.store.specs.Layout.{sizeIn, usedIn, lettersIn};
 ghost use Rattle.store.specs.Good.{ruleOf, nodeIn, Good};
-ghost use Rattle.frequencies.specs.Frequencies.{RowFrequencies, FirstRows};
+ghost use Rattle.end_rows.specs.EndRows.{FirstRows};
+ghost use Rattle.unique_rows.specs.Marks.{Marks};
 use spelling::spelling_length;
 use store::header;
 use store::rows;
-use store::rows::Row;
 
 // Whether a row's palindrome is minimal unique: it stands once only, and its inner row is a root's or stands at least twice.
-fn is_minimal(b: &[u8], counts: &[u16], row: usize) -> bool
+fn is_minimal(b: &[u8], marks: &[u8], row: usize) -> bool
     requires { ⌜ Good (now b) ⌝ }
-    requires { ⌜ RowFrequencies (now b) (now counts) ⌝ }
+    requires { ⌜ Marks (now b) (sizeIn (now b)) (now marks) ⌝ }
     requires { ⌜ usedIn (now b) row ≡ true ⌝ }
     ensures { λ r. ⌜ r ≡ isMinimalUnique (ruleOf (now (b .entry))) (lettersIn (now (b .entry))) (spellingOf (nodeIn (now (b .entry)) row)) ⌝ }
 {
-    if row <= Row::EMPTY {
+    if marks[row] != 1 {
         return false;
     }
-    if counts[row] != 1 {
-        return false;
-    }
-    let inner = rows::inner_of(b, row);
-    if inner <= Row::EMPTY {
-        return true;
-    }
-    1 < counts[inner]
+    marks[rows::inner_of(b, row)] == 2
 }
 
 // How many minimal unique palindromes there are.
-pub fn count_minimal(b: &[u8], firsts: &[u16], counts: &[u16]) -> usize
+pub fn count_minimal(b: &[u8], firsts: &[u16], marks: &[u8]) -> usize
     requires { ⌜ Good (now b) ⌝ }
     requires { ⌜ FirstRows (now b) (now firsts) ⌝ }
-    requires { ⌜ RowFrequencies (now b) (now counts) ⌝ }
+    requires { ⌜ Marks (now b) (sizeIn (now b)) (now marks) ⌝ }
     ensures { λ r. ⌜ r ≡ length (minimalUnique (ruleOf (now (b .entry))) (lettersIn (now (b .entry)))) ⌝ }
 {
     let n = header::size(b);
     let mut total = 0;
     let mut k = 0;
     while k < n {
-        if is_minimal(b, counts, firsts[k] as usize) {
+        if is_minimal(b, marks, firsts[k] as usize) {
             total += 1;
         }
         k += 1;
@@ -71,10 +64,10 @@ fn put_interval(out: &mut [u8], at: usize, start: usize, end: usize) -> usize
 }
 
 // Writes where each of them stands at the front of the buffer.
-pub fn put_minimal(b: &[u8], firsts: &[u16], counts: &[u16], out: &mut [u8])
+pub fn put_minimal(b: &[u8], firsts: &[u16], marks: &[u8], out: &mut [u8])
     requires { ⌜ Good (now b) ⌝ }
     requires { ⌜ FirstRows (now b) (now firsts) ⌝ }
-    requires { ⌜ RowFrequencies (now b) (now counts) ⌝ }
+    requires { ⌜ Marks (now b) (sizeIn (now b)) (now marks) ⌝ }
     requires { ⌜ length (intervalBytes (minimalUnique (ruleOf (now b)) (lettersIn (now b)))) ≤ length (now out) ⌝ }
     ensures { λ _. ⌜ now (out .exit) ≡ sets (now (out .entry)) 0 (intervalBytes (minimalUnique (ruleOf (now (b .entry))) (lettersIn (now (b .entry))))) ⌝ }
 {
@@ -84,7 +77,7 @@ pub fn put_minimal(b: &[u8], firsts: &[u16], counts: &[u16], out: &mut [u8])
     while k < n {
         let row = firsts[k] as usize;
         k += 1;
-        if is_minimal(b, counts, row) {
+        if is_minimal(b, marks, row) {
             at = put_interval(out, at, k - spelling_length(b, row), k);
         }
     }

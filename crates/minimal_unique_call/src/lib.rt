@@ -3,12 +3,11 @@
 ghost use mathlib.Core.List.{[]};
 ghost use Rattle.palindromes.specs.Refusal.{theMinimalUnique};
 ghost use Rattle.outcome.specs.Promise.{lending, Asked};
-use end_rows::rows_at_ends;
-use frequencies::row_frequencies;
 use minimal_unique::count_minimal;
 use minimal_unique::put_minimal;
 use outcome::pack;
 use outcome::refuse;
+use unique_rows::mark_rows;
 
 // Writes where each stands, four bytes each, and answers how many there are.
 pub fn list_minimal_unique(store: &[u8], out: &mut [u8]) -> u64
@@ -17,14 +16,13 @@ pub fn list_minimal_unique(store: &[u8], out: &mut [u8]) -> u64
     if !audit::is_good(store) {
         return refuse(3);
     }
-    let mut ends = [0u16; 1024];
-    let mut counts = [0u16; 1026];
-    rows_at_ends(store, &mut ends);
-    row_frequencies(store, &mut ends, &mut counts);
-    let number = count_minimal(store, &ends, &counts);
+    let mut firsts = [0u16; 1024];
+    let mut marks = [0u8; 1026];
+    mark_rows(store, &mut firsts, &mut marks);
+    let number = count_minimal(store, &firsts, &marks);
     if out.len() < 4 * number {
         return refuse(9);
     }
-    put_minimal(store, &ends, &counts, out);
+    put_minimal(store, &firsts, &marks, out);
     pack(false, 0, number, 0)
 }

@@ -1,5 +1,6 @@
--- How often a word that is not empty stands, letter by letter at the right end: one place more where it ends the record (`frequency-snoc`). So it is how often it stands among the stretches (`frequency-stretches`), and
--- no more often than there are letters. Rests on `Places` and `Stretches`.
+-- How often a word that is not empty stands, letter by letter at the right end: one place more where it ends the record (`frequency-snoc`). So it is
+-- how often it stands among the stretches (`frequency-stretches`), and no more often than there are letters; and what ends a longer palindrome stands
+-- at least twice where that one stands (`ends-twice`). Rests on `Places`, `Stretches` and `SuffixPalindromes`.
 use Prim.Native.Nat.{ℕ, suc, _+_, _≤_, _<_}
 use native.Mathlib.Omega.{arith}
 use mathlib.Core.Path.{_≡_, refl, sym, ap, _∙_}
@@ -9,13 +10,17 @@ use mathlib.Core.List.{List, [], _∷_, _++_, append-nil}
 use lib.ListN.{length, getD, take, length-append}
 use lib.Seq.{take-suc}
 use Rattle.palindromes.specs.Word.{Word, sameWord, member, keep}
-use Rattle.palindromes.specs.Place.{Prefix, startsWith, placesFrom, places, frequency}
-use Rattle.palindromes.specs.Record.{suffixes, stretches}
+use Rattle.palindromes.specs.Palindrome.{Symmetric, Palindrome}
+use Rattle.palindromes.specs.Place.{Stands, Prefix, Suffix, startsWith, placesFrom, places, frequency}
+use Rattle.palindromes.specs.Record.{suffixes, stretches, longestSuffix}
 use Rattle.palindromes.proofs.Tests.{not-true-false, same-true, same-refl}
-use Rattle.palindromes.proofs.Words.{no-letters, prefix-of-snoc, prefix-trans, prefix-append, suffix-length, snoc-induction}
+use Rattle.palindromes.proofs.Words.{no-letters, some-letters, prefix-of-snoc, prefix-trans, prefix-append, suffix-length, suffix-full}
+use Rattle.palindromes.proofs.Words.{stands-within, snoc-induction}
+use Rattle.palindromes.proofs.Mirror.{symmetric-suffix}
 use Rattle.palindromes.proofs.Lists.{same-test, left-is, right-is, either-true, member-cons, not-in-nil, keep-append}
-use Rattle.palindromes.proofs.Places.{starts-true, starts-is, frequency-cons}
+use Rattle.palindromes.proofs.Places.{starts-true, starts-is, frequency-cons, twice-is}
 use Rattle.palindromes.proofs.Stretches.{suffixes-true, stretches-empty, stretches-snoc}
+use Rattle.palindromes.proofs.SuffixPalindromes.{ends-longest}
 
 -- a test as a number
 abbrev pub one : Bool → ℕ
@@ -128,3 +133,31 @@ module _ (p : Word) where
         step s c ih =
             rw (stretches-snoc, keep-append, length-append)
             (omega (arith, ih, frequency-snoc s c, times-suffixes (s ++ (c ∷ []))))
+
+-- ---- palindromes
+
+module _ (σ : ℕ → ℕ) where
+  -- one letter more makes one more place of a palindrome where it ends the longest that ends the letters
+  pub palindrome-frequency : (w : Word) → Palindrome σ w → (s : Word) (k : ℕ) → k < length s
+      → frequency w (take (suc k) s) ≡ frequency w (take k s) + one (member w (suffixes (longestSuffix σ (take (suc k) s))))
+  palindrome-frequency w p s k h =
+      prefix-frequency w (p .non-empty) s k h ∙ ap (λ (t : Bool). frequency w (take k s) + one t) (ends-longest σ w p (take (suc k) s))
+
+  -- what ends a longer palindrome begins it too, so it stands at least twice where that one stands
+  pub ends-twice : {w v s : Word} → Symmetric σ w → Symmetric σ v → Suffix w v → (w ≡ v → ⊥) → Stands v s → 1 < frequency w s
+  ends-twice {w} {v} {s} h k a d c = twice-is w s (first .0) (last .0) (omega (arith, longer, lengths-at [] first, lengths-at (a .before) last))
+    where
+      begins : Prefix w v
+      begins = symmetric-suffix σ h k a
+
+      first : (x : Stands w s) × (x .before ≡ c .before ++ [])
+      first = stands-within (record { before = []; after = begins .after; whole = begins .whole }) c
+
+      last : (x : Stands w s) × (x .before ≡ c .before ++ a .before)
+      last = stands-within (record { before = a .before; after = []; whole = append-nil (a .before ++ w) ∙ a .whole }) c
+
+      lengths-at : (u : Word) (x : (y : Stands w s) × (y .before ≡ c .before ++ u)) → length (x .0 .before) ≡ length (c .before) + length u
+      lengths-at u x = ap length (x .1) ∙ length-append (c .before) u
+
+      longer : 0 < length (a .before)
+      longer = some-letters (a .before) λ e. d (suffix-full a (omega (arith, ap length e, simp length-append at (ap length (a .whole)))))

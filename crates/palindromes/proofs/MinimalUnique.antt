@@ -1,10 +1,10 @@
 -- Minimal unique palindromes, word by word: what the test says (`minimal-true`); of two of them none stands in the other (`none-inside`); and which
 -- nodes of the eertree spell one, by the frequencies of a node and of its inner node: 003 lemma 5 (`minimal-by-node`). Rests on the cuts of `Words`
 -- and `Places`. The partner rule may be any.
-use Prim.Native.Nat.{ℕ, _+_, _≤_, _<_}
+use Prim.Native.Nat.{ℕ, _+_, _<_}
 use native.Mathlib.Omega.{arith}
-use mathlib.Core.Path.{_≡_, refl, sym, ap, _∙_}
-use mathlib.Core.Bool.{Bool, true, false, _&&_, _||_}
+use mathlib.Core.Path.{_≡_, refl, ap}
+use mathlib.Core.Bool.{Bool, true, false, _&&_}
 use mathlib.Core.Logic.{_⊎_, inl, inr, ⊎-elim}
 use mathlib.Core.List.{[], _∷_, _++_, append-assoc, append-nil}
 use lib.Dec.{ltb, eqb}

@@ -24,7 +24,7 @@ use Rattle.palindromes.specs.MinimalUnique.{isMinimalUnique, minimalUniq
 use Rattle.palindromes.proofs.Tests.{not-true-false}
 use Rattle.palindromes.proofs.Words.{some-letters, stands-within, cut-within}
 use Rattle.palindromes.proofs.Longest.{longest-suffix}
-use Rattle.palindromes.proofs.Lists.{keep-nil, keep-pass, keep-skip, of-keep, in-keep, member-true, member-is}
+use Rattle.palindromes.proofs.Lists.{keep-nil, keep-pass, keep-skip, of-keep, in-keep, member-true}
 use Rattle.palindromes.proofs.Places.{Rising, first-place, first-end-fits}
 use Rattle.palindromes.proofs.Palindromes.{palindromes-is}
 use Rattle.palindromes.proofs.Order.{longest-at-first-end, first-ends-rising}

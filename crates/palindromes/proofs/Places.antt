@@ -3,6 +3,7 @@
 -- Rests on proofs/Tests.antt, Words.antt and Lists.antt.
 use Prim.Native.Nat.{ℕ, zero, suc, _+_, _≤_, _<_}
 use native.Mathlib.Omega.{arith}
+use native.Mathlib.Decide.{decLt}
 use mathlib.Core.Path.{_≡_, refl, sym, ap, _∙_, subst}
 use mathlib.Core.Bool.{Bool, true, false, cond, true≢false}
 use mathlib.Core.Logic.{_⊎_, inl, inr}
@@ -295,3 +296,18 @@ twice p s h = go (places p s) refl (places-rising p s) h
         let c = place-cut p s j (rw e (List·Memᴰ·head refl)) in
         let d = place-cut p s k (rw e (List·Memᴰ·tail (List·Memᴰ·head refl))) in
         (c .0, d .0, omega (arith, c .1, d .1, r .0 k (List·Memᴰ·head refl)))
+
+-- and what has two cuts stands at least twice
+pub twice-is : (p s : Word) (c d : Stands p s) → length (c .before) < length (d .before) → 1 < frequency p s
+unfolding frequency
+twice-is p s c d h = go (decLt 1 (length (places p s)))
+  where
+    there : List·Memᴰ (length (c .before)) (places p s)
+    there = cut-place p s c
+
+    same : length (places p s) ≡ 1 → length (c .before) ≡ length (d .before)
+    same one = one-number (places p s) (length (c .before)) (length (d .before)) one there (cut-place p s d)
+
+    go : Dec (1 < length (places p s)) → 1 < length (places p s)
+    go (yes l) = l
+    go (no n) = absurd (omega (arith, h, same (omega (arith, in-length there))))

@@ -23,8 +23,8 @@ use Rattle.palindromes.proofs.Tests.{not-true-false, same-true, same-is}
 use Rattle.palindromes.proofs.Lists.{not-in-nil}
 use Rattle.palindromes.proofs.Words.{same-or-not, stands-length, stands-of-empty}
 use Rattle.palindromes.proofs.Places.{stands-true, stands-is, stands-empty}
-use Rattle.palindromes.proofs.SuffixPalindromes.{ending-none, ending-longest, ending-link, ending-few, ends-longest, ends-link}
-use Rattle.palindromes.proofs.Frequency.{prefix-frequency, frequency-empty, frequency-most}
+use Rattle.palindromes.proofs.SuffixPalindromes.{ending-none, ending-longest, ending-link, ending-few, ends-link}
+use Rattle.palindromes.proofs.Frequency.{palindrome-frequency, frequency-empty, frequency-most}
 use Rattle.palindromes.proofs.Occurrences.{by-end-empty, prefix-by-end, occurrences-limit}
 use Rattle.eertree.proofs.Rows.{word-row}
 use Rattle.store.specs.Layout.{sizeIn, linkIn, usedIn, lettersIn}
@@ -175,10 +175,7 @@ module _ {b : Word} (g : Good b) where
 
     -- a letter more
     pub frequency-next : (k : ℕ) → k < sizeIn b → frequency wantedWord (take (k + 1) (lettersIn b)) ≡ frequency wantedWord (take k (lettersIn b)) + endingWith wantedWord (endingIn b (k + 1))
-    frequency-next k l =
-        rw (add-one k)
-        (prefix-frequency wantedWord (wanted-palindrome .non-empty) (lettersIn b) k (read-size k l)
-        ∙ ap (λ (t : Bool). frequency wantedWord (take k (lettersIn b)) + cond t 1 0) (ends-longest (ruleOf b) wantedWord wanted-palindrome (take (suc k) (lettersIn b))))
+    frequency-next k l = rw (add-one k) (palindrome-frequency (ruleOf b) wantedWord wanted-palindrome (lettersIn b) k (read-size k l))
 
     -- never more than the letters
     pub frequency-small : (k : ℕ) → frequency wantedWord (take k (lettersIn b)) ≤ k

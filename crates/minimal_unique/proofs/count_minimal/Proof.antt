@@ -22,10 +22,10 @@ record Turn (b : Word) (n total k : ℕ) : Type 0 where
   counted : total ≡ length (listedTo b k)
 
 abbrev Inv-loop : tie.InvT-loop
-Inv-loop b firsts counts n total₀ k₀ total k = Turn b n total k
+Inv-loop b firsts marks n total₀ k₀ total k = Turn b n total k
 
 abbrev μ-loop : tie.MeasureT-loop
-μ-loop b firsts counts n total₀ k₀ total k = n - k
+μ-loop b firsts marks n total₀ k₀ total k = n - k
 
 -- the entry, from the loop
 abbrev from-loop : tie.At-loop Inv-loop μ-loop → tie.Start Inv-loop μ-loop

@@ -23,10 +23,10 @@ record Turn (b out₀ : Word) (n : ℕ) (out : Word) (at k : ℕ) : Type 0 where
   put : Written b out₀ k out at
 
 abbrev Inv-loop : tie.InvT-loop
-Inv-loop b firsts counts out₀ n at₀ k₀ out at k = Turn b out₀ n out at k
+Inv-loop b firsts marks out₀ n at₀ k₀ out at k = Turn b out₀ n out at k
 
 abbrev μ-loop : tie.MeasureT-loop
-μ-loop b firsts counts out₀ n at₀ k₀ out at k = n - k
+μ-loop b firsts marks out₀ n at₀ k₀ out at k = n - k
 
 -- the entry, from the loop
 abbrev from-loop : tie.At-loop Inv-loop μ-loop → tie.Start Inv-loop μ-loop

@@ -34,26 +34,23 @@ returns c =
 good : (c : tie.Else1) → Good (c .before .before .before .before .args .store .now)
 good c = let g = c .before .is-good in holds _ (g .result) (g .ensures) (c .if1 .left)
 
--- the test, from behind the frequencies; these, from behind the count; and the entry from there
-abbrev tested : tie.After-row-frequencies → tie.Else1
-tested c = c .before .before .before .before .before .before
+-- the test, from behind the marks; these, from behind the count; and the entry from there
+abbrev tested : tie.After-mark-rows → tie.Else1
+tested c = c .before .before .before
 
-abbrev counting : tie.After-count-minimal → tie.After-row-frequencies
-counting c = c .before .before .before .before .before
+abbrev marked : tie.After-count-minimal → tie.After-mark-rows
+marked c = c .before .before .before .before .before
 
 abbrev from-count : tie.After-count-minimal → tie.Start
-from-count c = tested (counting c) .before .before .before .before
+from-count c = tested (marked c) .before .before .before .before
 
-rows-at-ends-requires : tie.Need-rows-at-ends-requires
-rows-at-ends-requires c κs = let g = good (c .before) in (g, size-most g)
-
-row-frequencies-requires : tie.Need-row-frequencies-requires
-row-frequencies-requires c κs = (good (c .before .before .before .before .before), (c .before .before .before .rows-at-ends .ensures, refl))
+mark-rows-requires : tie.Need-mark-rows-requires
+mark-rows-requires c κs = let g = good (c .before .before) in (g, (size-most g, refl))
 
 count-minimal-requires : tie.Need-count-minimal-requires
 count-minimal-requires c κs =
     let f = c .before .before .before .before in
-    (good (tested f), (f .row-frequencies .ensures .0, f .row-frequencies .ensures .1 .0))
+    (good (tested f), f .mark-rows .ensures)
 
 -- what is listed
 abbrev listed : tie.After-count-minimal → List Interval
@@ -66,26 +63,26 @@ room c = omega (arith, interval-bytes-length (listed c), c .count-minimal .ensur
 mul-if2 : tie.Need-mul-if2
 mul-if2 c =
     let b = from-count c .args .store .now in
-    omega (arith, c .count-minimal .ensures, minimal-few (ruleOf b) (lettersIn b), few (good (tested (counting c))))
+    omega (arith, c .count-minimal .ensures, minimal-few (ruleOf b) (lettersIn b), few (good (tested (marked c))))
 
 returns-2 : tie.Need-returns-2
 returns-2 c =
     let n = c .before .before in
     let s = from-count n .args in
     let short = too-short (minimal-writing (s .store .now)) (lending [] (s .out .now)) (omega (arith, room n, c .before .if2 .taken)) in
-    by-verdict _ _ _ 9 (judged (good (tested (counting n))) (sym short)) (omega arith) (c .refuse2 .ensures)
+    by-verdict _ _ _ 9 (judged (good (tested (marked n))) (sym short)) (omega arith) (c .refuse2 .ensures)
 
 -- a buffer with room
 clear : (c : tie.Else2) → let s = from-count (c .before) .args in Answerable (ask theMinimalUnique) (s .store .now) (lending [] (s .out .now))
 clear c =
     let n = c .before in
-    record { good = good (tested (counting n)); clear = long-enough (minimal-writing _) _ (omega (arith, room n, c .if2 .left)) }
+    record { good = good (tested (marked n)); clear = long-enough (minimal-writing _) _ (omega (arith, room n, c .if2 .left)) }
 
 put-minimal-requires : tie.Need-put-minimal-requires
 put-minimal-requires c κs =
     let e = c .before .before .before in
-    let f = counting (e .before) in
-    (good (tested f), (f .row-frequencies .ensures .0, (f .row-frequencies .ensures .1 .0, omega (arith, room (e .before), e .if2 .left))))
+    let f = marked (e .before) in
+    (good (tested f), (f .mark-rows .ensures .0, (f .mark-rows .ensures .1, omega (arith, room (e .before), e .if2 .left))))
 
 pack-requires : tie.Need-pack-requires
 unfolding answerTo
@@ -109,10 +106,8 @@ list-minimal-unique-spec =
     (λ c κs. search needs)
     returns
     (λ c. search needs)
-    rows-at-ends-requires
     (λ c. search needs)
-    (λ c. search needs)
-    row-frequencies-requires
+    mark-rows-requires
     (λ c. search needs)
     (λ c. search needs)
     count-minimal-requires

@@ -1,0 +1,2 @@
+-- how often palindromes stand with one letter more, as far as 2
+pub mod Marks
