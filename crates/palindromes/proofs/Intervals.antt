@@ -103,10 +103,17 @@ ordered-same (p ∷ a) (q ∷ b) r t f g = ap₂ _∷_ first (ordered-same a b (
 
     there : (x : Interval) → List·Memᴰ x a → List·Memᴰ x b
     there x m =
-        ⊎-elim (λ e. absurd (not-itself p (subst (Earlier p) (e ∙ sym first) (r .0 x m)))) (λ n. n) (List·Memᴰ·cases-cons (f x (List·Memᴰ·tail m)))
+        ⊎-elim
+        (λ e. absurd (not-itself p (subst (Earlier p) (e ∙ sym first) (r .0 x m))))
+        (λ n. n)
+        (List·Memᴰ·cases-cons (f x (List·Memᴰ·tail m)))
 
     back : (x : Interval) → List·Memᴰ x b → List·Memᴰ x a
-    back x m = ⊎-elim (λ e. absurd (not-itself q (subst (Earlier q) (e ∙ first) (t .0 x m)))) (λ n. n) (List·Memᴰ·cases-cons (g x (List·Memᴰ·tail m)))
+    back x m =
+        ⊎-elim
+        (λ e. absurd (not-itself q (subst (Earlier q) (e ∙ first) (t .0 x m))))
+        (λ n. n)
+        (List·Memᴰ·cases-cons (g x (List·Memᴰ·tail m)))
 
 -- ---- the intervals of a record
 
@@ -114,7 +121,10 @@ numbers-true : (i n j : ℕ) → List·Memᴰ j (numbersFrom i n) → (i ≤ j) 
 unfolding numbersFrom
 numbers-true i zero j m = absurd (List·Memᴰ·not-nil m)
 numbers-true i (suc n) j m =
-    ⊎-elim (λ e. (omega arith, omega arith)) (λ k. let r = numbers-true (suc i) n j k in (omega (arith, r .0), omega (arith, r .1))) (List·Memᴰ·cases-cons m)
+    ⊎-elim
+    (λ e. (omega arith, omega arith))
+    (λ k. let r = numbers-true (suc i) n j k in (omega (arith, r .0), omega (arith, r .1)))
+    (List·Memᴰ·cases-cons m)
 
 numbers-is : (i n j : ℕ) → i ≤ j → j < i + n → List·Memᴰ j (numbersFrom i n)
 unfolding numbersFrom

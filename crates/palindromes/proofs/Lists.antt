@@ -110,7 +110,8 @@ pub of-keep : {A : Type 0} (p : A → Bool) (l : List A) {x : A} → List·Mem�
 of-keep p [] m = absurd (List·Memᴰ·not-nil (rw (keep-nil p) at m))
 of-keep {A} p (w ∷ l) {x} m = go (of-keep p l) (p w) refl m
   where
-    go : (List·Memᴰ x (keep p l) → List·Memᴰ x l × (p x ≡ true)) → (t : Bool) → p w ≡ t → List·Memᴰ x (keep p (w ∷ l)) → List·Memᴰ x (w ∷ l) × (p x ≡ true)
+    go : (List·Memᴰ x (keep p l) → List·Memᴰ x l × (p x ≡ true)) → (t : Bool) → p w ≡ t → List·Memᴰ x (keep p (w ∷ l))
+        → List·Memᴰ x (w ∷ l) × (p x ≡ true)
     go ih true e m =
         ⊎-elim (λ i. (List·Memᴰ·head i, rw i e)) (λ i. (List·Memᴰ·tail (ih i .0), ih i .1)) (List·Memᴰ·cases-cons (rw (keep-pass p w l e) at m))
     go ih false e m = let i = ih (rw (keep-skip p w l e) at m) in (List·Memᴰ·tail (i .0), i .1)

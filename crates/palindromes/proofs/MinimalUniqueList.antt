@@ -183,7 +183,8 @@ module _ (σ : ℕ → ℕ) (s : Word) where
   met-ordered : (k : ℕ) → k ≤ length s → Ordered (metTo σ s k)
   unfolding metTo metAt
   met-ordered zero h = tt
-  met-ordered (suc k) h = ordered-append (metTo σ s k) (metAt σ s (suc k)) (met-ordered k (omega arith)) (one (isMinimalUnique σ s (ending σ s (suc k)))) apart
+  met-ordered (suc k) h =
+      ordered-append (metTo σ s k) (metAt σ s (suc k)) (met-ordered k (omega arith)) (one (isMinimalUnique σ s (ending σ s (suc k)))) apart
     where
       one : (t : Bool) → Ordered (cond t (interval (suc k - length (ending σ s (suc k))) (suc k) ∷ []) [])
       one true = ((λ q m. absurd (List·Memᴰ·not-nil m)), tt)
@@ -242,7 +243,8 @@ module _ (σ : ℕ → ℕ) (s : Word) where
   met-more k zero h = let e : k ≡ 0 = omega arith in rw e (omega arith)
   met-more k (suc j) h = go (met-more k j) (ℕ-discrete k (suc j))
     where
-      go : (k ≤ j → length (metTo σ s k) ≤ length (metTo σ s j)) → Dec (k ≡ suc j) → length (metTo σ s k) ≤ length (metTo σ s j ++ metAt σ s (suc j))
+      go : (k ≤ j → length (metTo σ s k) ≤ length (metTo σ s j)) → Dec (k ≡ suc j)
+          → length (metTo σ s k) ≤ length (metTo σ s j ++ metAt σ s (suc j))
       go ih (yes e) = rw e (omega arith)
       go ih (no n) = omega (arith, ih (omega arith), length-append (metTo σ s j) (metAt σ s (suc j)))
 

@@ -4,7 +4,7 @@
 use Prim.Native.Nat.{ℕ, _≤_, _<_}
 use native.Mathlib.Decide.{decLt}
 use native.Mathlib.Omega.{arith}
-use mathlib.Core.Path.{_≡_, sym, ap, _∙_}
+use mathlib.Core.Path.{_≡_, refl, sym, ap, _∙_}
 use lib.ListN.{length, take}
 use Rattle.palindromes.specs.Word.{Word}
 use Rattle.palindromes.specs.Refusal.{Question, ask}
@@ -53,17 +53,19 @@ module _ {q : Question} {n : ℕ} {w b c : Word} (f : Writing q n w b) (e : Writ
   abbrev Alike : Type 0
   Alike = (outcome (ask q) b l .reply ≡ outcome (ask q) c l .reply) × (outcome (ask q) b l .lent ≡ outcome (ask q) c l .lent)
 
+  -- by what the two come to
+  by-outcomes : {x y : Outcome} → outcome (ask q) b l ≡ x → outcome (ask q) c l ≡ y → x .reply ≡ y .reply → x .lent ≡ y .lent → Alike
+  by-outcomes i j r t = (
+    ap (λ (o : Outcome). o .reply) i ∙ r ∙ sym (ap (λ (o : Outcome). o .reply) j),
+    ap (λ (o : Outcome). o .lent) i ∙ t ∙ sym (ap (λ (o : Outcome). o .lent) j),
+  )
+
   by-room : Dec (length (l .out) < length w) → Alike
   unfolding refusedOutcome
-  by-room (yes h) =
-      let x = without-room f l h in
-      let y = without-room e l h in
-      (ap (λ (o : Outcome). o .reply) x ∙ sym (ap (λ (o : Outcome). o .reply) y), ap (λ (o : Outcome). o .lent) x ∙ sym (ap (λ (o : Outcome). o .lent) y))
+  by-room (yes h) = by-outcomes (without-room f l h) (without-room e l h) refl refl
   by-room (no m) =
       let h : length w ≤ length (l .out) = omega arith in
-      let x = with-room f l h in
-      let y = with-room e l h in
-      (ap (λ (o : Outcome). o .reply) x ∙ sym (ap (λ (o : Outcome). o .reply) y), ap (λ (o : Outcome). o .lent) x ∙ sym (ap (λ (o : Outcome). o .lent) y))
+      by-outcomes (with-room f l h) (with-room e l h) refl refl
 
   alike : Alike
   alike = by-room (decLt (length (l .out)) (length w))

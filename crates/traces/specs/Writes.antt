@@ -25,5 +25,6 @@ pub record Short (b : Word) (l : Lent) (a : ℕ) (b′ : Word) (l′ : Lent) : T
 
 -- one or the other, by the length of the output
 pub record Writes (q : Question) (n : ℕ) (w b : Word) : Type 0 where
-  pub written : (l : Lent) (a : ℕ) (b′ : Word) (l′ : Lent) → Promise (ask q) b l a b′ l′ → length w ≤ length (l .out) → Written n w b l a b′ l′
+  pub written : (l : Lent) (a : ℕ) (b′ : Word) (l′ : Lent) → Promise (ask q) b l a b′ l′ → length w ≤ length (l .out)
+      → Written n w b l a b′ l′
   pub short : (l : Lent) (a : ℕ) (b′ : Word) (l′ : Lent) → Promise (ask q) b l a b′ l′ → length (l .out) < length w → Short b l a b′ l′

@@ -133,7 +133,12 @@ module _ {b : Word} (g : Good b) where
       again-old = ap not (stands-is (endingIn b (k + 1)) (take k (lettersIn b)) stood)
 
       pub again : Marks b (k + 1) (set old row 2)
-      again = record { long = length-set old row 2 ∙ a .long; root = λ r m. root r m (ℕ-discrete r row); each = λ r w u m e. each r w u m e (ℕ-discrete r row) }
+      again =
+          record {
+            long = length-set old row 2 ∙ a .long;
+            root = λ r m. root r m (ℕ-discrete r row);
+            each = λ r w u m e. each r w u m e (ℕ-discrete r row);
+          }
         where
           here : getD (set old row 2) row 0 ≡ 2
           here = getD-set-same old row 2 0 (omega (arith, a .long, row-below g row (h .used)))

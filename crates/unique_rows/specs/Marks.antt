@@ -19,7 +19,8 @@ StandsFor m n = ((m ≡ n) × (n < 2)) ⊎ ((m ≡ 2) × (1 < n))
 pub record Marks (b : Word) (k : ℕ) (marks : Word) : Type 0 where
   pub long : length marks ≡ 1026
   pub root : (r : ℕ) → r < 2 → getD marks r 0 ≡ 2
-  pub each : (r : ℕ) (w : Word) → usedIn b r ≡ true → 2 ≤ r → nodeIn b r ≡ spelt w → StandsFor (getD marks r 0) (frequency w (take k (lettersIn b)))
+  pub each : (r : ℕ) (w : Word) → usedIn b r ≡ true → 2 ≤ r → nodeIn b r ≡ spelt w
+      → StandsFor (getD marks r 0) (frequency w (take k (lettersIn b)))
 
 -- with one letter more, at whose right end the row is met, the marks follow; the answer is that row where its palindrome is new, and else a root's
 abbrev pub Meets : (b : Word) (row : ℕ) (old new : Word) (answer : ℕ) → Type 0

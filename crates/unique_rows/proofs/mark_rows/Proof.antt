@@ -51,7 +51,13 @@ from-meet c = c .before .before
 loop-holds : tie.Need-loop-holds Inv-loop μ-loop
 loop-holds c =
     let s = c .before .before .before .before .before in
-    record { read = omega arith; long = refl; here = holds-first (s .pre .0); marked = marks-first (s .pre .0) (s .pre .1 .1); each = λ j m. absurd (omega arith) }
+    record {
+      read = omega arith;
+      long = refl;
+      here = holds-first (s .pre .0);
+      marked = marks-first (s .pre .0) (s .pre .1 .1);
+      each = λ j m. absurd (omega arith);
+    }
 
 -- a letter is left to read, and there is a place for it
 more : (c : tie.After-next Inv-loop μ-loop) → let t = from-next c in t .loop .k < sizeIn (from-loop t .args .b .now)
@@ -61,8 +67,8 @@ room : (c : tie.After-next Inv-loop μ-loop) → let t = from-next c in t .loop 
 room c = let t = from-next c in omega (arith, more c, t .loop .inv .long, from-loop t .pre .1 .0)
 
 -- one letter more
-turn-next : {b : Word} {n m : ℕ} {firsts marks : Word} {row k : ℕ} → Turn b n m firsts marks row k → k < n → k < length firsts → {next first : ℕ} {new : Word}
-    → Holds b (k + 1) next → Marks b (k + 1) new → At b k first → Turn b n m (set firsts k first) new next (k + 1)
+turn-next : {b : Word} {n m : ℕ} {firsts marks : Word} {row k : ℕ} → Turn b n m firsts marks row k → k < n → k < length firsts
+    → {next first : ℕ} {new : Word} → Holds b (k + 1) next → Marks b (k + 1) new → At b k first → Turn b n m (set firsts k first) new next (k + 1)
 turn-next {b} {firsts} {k} t l r {first} h a f =
     record { read = omega arith; long = length-set firsts k first ∙ t .long; here = h; marked = a; each = λ j m. go j m (ℕ-discrete j k) }
   where
