@@ -6,6 +6,7 @@ pub mod Longest
 pub mod Change
 pub mod Growth
 pub mod Lists
+pub mod Entries
 pub mod Letters
 pub mod Places
 pub mod Stretches

@@ -5,7 +5,7 @@ use borrow.Author.Tests.{eq-eqb, ne-eqb}
 use Rattle.palindromes.specs.Palindrome.{plain}
 use Rattle.palindromes.specs.Reading.{complement}
 use Rattle.palindromes.proofs.Readings.{rule-plain, rule-inverted}
-use Rattle.partners.proofs.Entries.{entriesFrom, entry-at}
+use Rattle.palindromes.proofs.Entries.{entriesFrom, entry-at}
 use Rattle.partners.proofs.table.Statement.{statement}
 use Rattle.partners.proofs.table.Tie as tie
 
