@@ -1,3 +1,4 @@
 pub mod Claim
 pub mod Pages
 pub mod MinimalUnique
+pub mod Uncertain

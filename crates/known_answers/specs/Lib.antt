@@ -5,3 +5,4 @@ pub mod Searches
 pub mod Mismatches
 pub mod Pages
 pub mod MinimalUnique
+pub mod Uncertain
