@@ -37,8 +37,8 @@ enum {
     MIRROR_CAPACITY = 1,    /* opening: capacity outside 1 to 1,024 */
     MIRROR_STORE_SHORT = 2, /* opening: store too short */
     MIRROR_DAMAGED = 3,     /* store not good, or too short for its capacity */
-    MIRROR_NO_LETTER = 4,   /* not A, C, G, T; FASTA: nor a, c, g, t */
-    MIRROR_FULL = 5,        /* record full; FASTA: over 1,024 letters */
+    MIRROR_NO_LETTER = 4,   /* not A, C, G, T; FASTA: nor a, c, g, t; uncertain: no code */
+    MIRROR_FULL = 5,        /* record full; FASTA, uncertain: over 1,024 letters or codes */
     MIRROR_EMPTY = 6,       /* record empty */
     MIRROR_NO_PLACE = 7,    /* place not in record; row free or over capacity + 1; frequency: row 0 or 1 too */
     MIRROR_NO_PIECE = 8,    /* piece empty */
@@ -106,6 +106,11 @@ uint64_t mirror_minimal_unique(const uint8_t *store, size_t length, uint8_t *out
  * first number; the letters go to the front of `out`, and how many is the second. 1,024 bytes are always room enough. In
  * the lines after the first a, c, g and t are read, and written, as A, C, G and T; additions and find take capitals only. */
 uint64_t mirror_fasta(const uint8_t *text, size_t length, uint8_t *out, size_t out_length);
+/* Two lengths of a text of up to 1,024 NC-IUB codes in either case, read plain; needs no store. A code stands for one or more of A,
+ * C, G and T, and a base is chosen at each place by itself. The first number is the length of the longest stretch that is a mirror
+ * repeat for some choice, the second that of the longest which is one for every choice; both are 0 for an empty text. More codes are
+ * refused with 5, whatever they are, and a byte that is no code, U among them, with 4. */
+uint64_t mirror_uncertain(const uint8_t *text, size_t length);
 
 static inline unsigned mirror_refusal(uint64_t answer) { return (unsigned)(answer & 0xff); }
 static inline unsigned mirror_flag(uint64_t answer) { return (unsigned)(answer >> 8 & 0xff); }

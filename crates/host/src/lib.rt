@@ -6,6 +6,7 @@ ghost use mathlib.Core.List.{[]};
 ghost use Rattle.palindromes.specs.Refusal.{add, remove, turn, theLength, theCount, theLongest, theLongestLength, theLongestAt, theLetter, theRow};
 ghost use Rattle.palindromes.specs.Refusal.{theFrequency, theOccurrences, spell, find, list, page, theMinimalUnique};
 ghost use Rattle.fasta_call.specs.Answer.{FastaPromise};
+ghost use Rattle.uncertain_call.specs.Answer.{UncertainPromise};
 ghost use Rattle.outcome.specs.Promise.{lending, nothing, Promise, OpeningPromise, FreeRow, Asked};
 
 // Opens an empty plain record of the given capacity.
@@ -205,4 +206,13 @@ pub extern "C" fn mirror_fasta(text: &[u8], out: &mut [u8]) -> u64
     ensures { λ r. ⌜ FastaPromise (now (text .entry)) (now (out .entry)) r (now (out .exit)) ⌝ }
 {
     fasta_call::read_text(text, out)
+}
+
+// The two lengths of a text of uncertain bases: of the longest stretch that is a repeat for some choice of
+// bases, and of the longest that is one for every choice.
+#[no_mangle]
+pub extern "C" fn mirror_uncertain(text: &[u8]) -> u64
+    ensures { λ r. ⌜ UncertainPromise (now (text .entry)) r ⌝ }
+{
+    uncertain_call::longest_lengths(text)
 }

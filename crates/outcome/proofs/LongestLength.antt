@@ -18,23 +18,24 @@ use Rattle.outcome.proofs.Told.{told}
 
 module _ {b : Word} (g : Good b) where
   -- an accepted question on a good store: what the host unpacks is the answer
-  read : (q : Question) {x : ℕ} → refusal (ruleOf b) (viewIn b nothing) (ask q) ≡ 0 → Asked q b nothing x nothing → unpacked x ≡ answered (answerTo q b)
+  pub question-read : (q : Question) {x : ℕ} → refusal (ruleOf b) (viewIn b nothing) (ask q) ≡ 0 → Asked q b nothing x nothing
+      → unpacked x ≡ answered (answerTo q b)
   unfolding acceptedOutcome
-  read q e p = told g p .reply ∙ ap (λ (o : Outcome). o .reply) (carried-out (ask q) b nothing e)
+  question-read q e p = told g p .reply ∙ ap (λ (o : Outcome). o .reply) (carried-out (ask q) b nothing e)
 
   module _ {x : ℕ} (asked : Asked theLongestLength b nothing x nothing) where
     -- the length that is read
-    length-read : (refusalIn x ≡ 0) × (firstIn x ≡ longestLength (ruleOf b) (lettersIn b))
+    pub length-read : (refusalIn x ≡ 0) × (firstIn x ≡ longestLength (ruleOf b) (lettersIn b))
     unfolding unpacked answerTo accepted
     length-read =
-        let r = read theLongestLength (longest-length-accepted b nothing) asked in
+        let r = question-read theLongestLength (longest-length-accepted b nothing) asked in
         (ap (λ (r : Reply). r .number) r, ap (λ (r : Reply). r .first) r)
 
     -- 02 (ii) "for any other the length that the longest question answers"
     pub longest-length-agrees : (lettersIn b ≡ [] → ⊥) → {y : ℕ} → Asked theLongest b nothing y nothing → (refusalIn x ≡ 0) × (refusalIn y ≡ 0) × (firstIn x ≡ firstIn y)
     unfolding unpacked answerTo accepted
     longest-length-agrees n p =
-        let r = read theLongest (longest-accepted b nothing n) p in
+        let r = question-read theLongest (longest-accepted b nothing n) p in
         (length-read .0, ap (λ (r : Reply). r .number) r, cc (length-read .1, ap (λ (r : Reply). r .first) r))
 
     -- 02 (ii) "0 for an empty record", and for any that has no repeat
