@@ -1,5 +1,5 @@
 /* A sitting in C: two teams build ACGAAG from both ends, ask for its mirror repeats and which of them are minimal unique, and take
- * a letter away again. Then a record is read from a FASTA text and printed as in GenBank. */
+ * a letter away again. Then a record is read from a FASTA text and printed as in GenBank. At last a read with an uncertain base. */
 #include "mirror.h"
 #include <stdio.h>
 #include <string.h>
@@ -57,5 +57,7 @@ int main(void)
     printf("GAAG is %s\n", mirror_flag(must(mirror_find(store, sizeof store, (const uint8_t *)"GAAG", 4))) ? "found" : "absent");
     printf("longest: %u letters\n", mirror_first(must(mirror_longest_length(store, sizeof store))));
     read_fasta(">e2 from a file\nACCA\nCG\n");
+    answer = must(mirror_uncertain((const uint8_t *)"ANT", 3));
+    printf("ANT: %u codes for some choice of bases, %u for every choice\n", mirror_first(answer), mirror_second(answer));
     return 0;
 }

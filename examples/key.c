@@ -228,6 +228,18 @@ static void say_minimal(const struct line *l, uint64_t answer)
     for (unsigned i = 0; i < mirror_first(answer); i++) printf("%s%u to %u", i ? ", " : "", mirror_start(text, i), mirror_end(text, i));
 }
 
+/* The codes are a word of the line; the record has no part in it. */
+static uint64_t make_uncertain(const struct line *l)
+{
+    return mirror_uncertain((const uint8_t *)l->words[1], strlen(l->words[1]));
+}
+
+static void say_uncertain(const struct line *l, uint64_t answer)
+{
+    (void)l;
+    printf("%u for some choice, %u for every choice", mirror_first(answer), mirror_second(answer));
+}
+
 static const struct form forms[] = {
     {"open", NUMBER, "open CAPACITY", make_open, say_done},
     {"open-inverted", NUMBER, "open-inverted CAPACITY", make_open_inverted, say_done},
@@ -247,6 +259,7 @@ static const struct form forms[] = {
     {"list", MAYBE_TEXT, "list IDENTIFIER", make_list, say_list},
     {"genbank", MAYBE_NUMBER, "genbank, genbank BYTES", make_genbank, say_genbank},
     {"minimal", MAYBE_NUMBER, "minimal, minimal BYTES", make_minimal, say_minimal},
+    {"uncertain", MAYBE_TEXT, "uncertain CODES", make_uncertain, say_uncertain},
     {"rows", NOTHING, "rows", NULL, NULL},
 };
 

@@ -8,6 +8,8 @@
  * reading gives that reading, and, from LENGTH on, the questions. */
 #define CALL_KIND(kind, name) kind,
 typedef enum { EACH_OPENING(CALL_KIND) EACH_STORE_CALL(CALL_KIND) CALL_KINDS } call_kind;
+/* The numbers of the calls that take no store, which follow. */
+enum { LAST_CALL_KIND = CALL_KINDS - 1, EACH_TEXT_CALL(CALL_KIND) };
 
 typedef struct {
     call_kind kind;

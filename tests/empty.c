@@ -77,6 +77,7 @@ static void no_text(uint8_t *p)
     must("no text", mirror_fasta(p, 0, p, 0), MIRROR_IDENTIFIER);
     must("no letters", mirror_fasta((const uint8_t *)">e1\n", 4, p, 0), 2ull << 32);
     must("no room", mirror_fasta((const uint8_t *)">e1\nA", 5, p, 0), MIRROR_NO_ROOM);
+    must("no codes", mirror_uncertain(p, 0), 0);
 }
 
 int main(void)

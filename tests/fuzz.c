@@ -6,17 +6,18 @@
  * < and > remove at an end, ? and a byte ask a question, ! and three bytes change a byte, = and three bytes set a cell, # and
  * two bytes do one of the kinds of damages.c, ~ takes the last good store again, / and a byte change the length lent, @ and a
  * byte open again, & and a byte open an inverted record, p and i turn to the plain and to the inverted reading, % and four bytes
- * find a repeat of the record, or any stretch of it, with one letter changed. Any other byte is added as a letter that is
- * none. A missing argument is 0. */
+ * find a repeat of the record, or any stretch of it, with one letter changed, u and some bytes ask for the lengths of an uncertain
+ * text. Any other byte is added as a letter that is none. A missing argument is 0. */
 #include "damages.h"
 #include "guard.h"
 #include "oracle.h"
 #include "random.h"
+#include "second_uncertain.h"
 #include <stdio.h>
 #include <stdlib.h>
 #include <string.h>
 
-enum { ROOM = 60 * 1024, STORE_SLOT = 3, TEXT = 40 };
+enum { ROOM = 60 * 1024, STORE_SLOT = 3, CODES_SLOT, TEXT = 40 };
 
 int LLVMFuzzerTestOneInput(const uint8_t *data, size_t size);
 
@@ -79,6 +80,28 @@ static void ask_near(void)
     oracle(store, length, &c);
 }
 
+/* A text of uncertain bases, which takes no store. Two bytes say how long it is, seldom about as many codes as there may be, and a
+ * third of how many of the bytes that follow it is made, again and again; each names a code or, where the third is from 128 on, is
+ * taken as it is. */
+static void ask_codes(void)
+{
+    static const char codes[] = "ACGTRYMKSWBDHVNacgtrymkswbdhvn";
+    unsigned high = next(), low = next(), third = next(), of = 1 + third % TEXT;
+    size_t n = high < 192 ? low % TEXT : high < 254 ? low + high % 8 : MOST_CODES - 2 + low % 8;
+    uint8_t part[TEXT], *text = guard_room(CODES_SLOT, n);
+    for (size_t i = 0; i < of; i++) part[i] = (uint8_t)next();
+    for (size_t i = 0; i < of && third < 128; i++) part[i] = (uint8_t)codes[part[i] % (sizeof codes - 1)];
+    for (size_t i = 0; i < n; i++) text[i] = part[i % of];
+    uint64_t wanted = second_uncertain(text, n), got = mirror_uncertain(text, n);
+    int stays = 1;
+    for (size_t i = 0; i < n; i++) stays &= text[i] == part[i % of];
+    oracle_calls++;
+    if (got == wanted && stays) return;
+    printf("uncertain %.*s, again and again to %zu codes: wanted %llx, got %llx%s\n", (int)of, (char *)part, n, (unsigned long long)wanted,
+           (unsigned long long)got, stays ? "" : ", and a byte of the text changed");
+    abort();
+}
+
 /* damage that needs a good store to start from; what was good is kept for ~ */
 static void spoil(void)
 {
@@ -117,6 +140,7 @@ static void one(unsigned what)
     case 'i': make(TURN_INVERTED, 0); break;
     case '?': ask(); break;
     case '%': ask_near(); break;
+    case 'u': ask_codes(); break;
     case '!': at = (next() * 256 + next()) % whole; store[at] = (uint8_t)next(); break;
     case '=': at = next() % 26; what = next(); layout_put(store, at % (whole / 48), what % ROW_CELLS, next()); break;
     case '#': spoil(); break;
@@ -155,7 +179,7 @@ static void run(FILE *in)
 /* inputs that look random, mostly of bytes that mean something */
 static void run_random(const char *seed, int rounds)
 {
-    static const char meant[] = "acgtACGTacgtACGT<>?%#~!=/@&pi";
+    static const char meant[] = "acgtACGTacgtACGT<>?%#~!=/@&piu";
     uint8_t data[200];
     for (int i = 0; i < rounds; i++) {
         random_seed(NULL, strtoull(seed, NULL, 10) * 1000003u + 2u * (unsigned)i + 1);

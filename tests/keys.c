@@ -3,9 +3,12 @@
  * A key is compared as it stands in the table, and no other program is asked. Beside the table: small letters are refused,
  * the keys of inverted records that 02 (vi) and source 004 have, records that are turned, 02 (vii), how many repeats of each
  * length a store carries, 02 (ii), what additions report of their search, 02 (xiii), where a piece breaks, 02 (x), how much
- * scratch the list takes, 02 (ix), how often repeats stand, 02 (iii), the minimal unique repeats, 02 (viii), and the record printed as
- * in GenBank, 02 (iv), each page written out here byte by byte. Keys that ask for no repeat are run with either opening. */
+ * scratch the list takes, 02 (ix), how often repeats stand, 02 (iii), the minimal unique repeats, 02 (viii), the two lengths of texts
+ * of uncertain bases, 02 (xii), which uncertain_keys.c has, and the record printed as in GenBank, 02 (iv), each page written out here
+ * byte by byte. Keys that ask for no repeat are run with either opening. */
 #include "mirror.h"
+#include "uncertain_keys.h"
+#include <ctype.h>
 #include <stdio.h>
 #include <stdlib.h>
 #include <string.h>
@@ -883,6 +886,63 @@ static void minimal_of_damaged_stores(opening *open)
     minimal(open == mirror_open ? "0-1 1-3 3-5 5-6" : "2-4");
 }
 
+/* ---- uncertain bases, 02 (xii) */
+
+static void uncertain(const char *text, uint64_t answer)
+{
+    sitting = *text ? text : "no codes";
+    key("its lengths, or its refusal", answer, mirror_uncertain((const uint8_t *)text, strlen(text)));
+}
+
+static void uncertain_by_hand(void)
+{
+    for (size_t i = 0; i < uncertain_keys_count; i++)
+        uncertain(uncertain_keys[i].text, (uint64_t)uncertain_keys[i].some << 32 | (uint64_t)uncertain_keys[i].every << 48);
+    for (size_t i = 0; i < uncertain_none_count; i++) uncertain(uncertain_none[i], 4);
+    uncertain("acgtrymkswbdhvnACGTRYMKSWBDHVNx", 4);
+}
+
+/* every code alone, and every two of them, in both cases */
+static void uncertain_of_two(void)
+{
+    for (const char *one = uncertain_codes; *one; one++) {
+        uncertain((char[]){*one, 0}, 1ull << 32 | 1ull << 48);
+        for (const char *other = uncertain_codes; *other; other++) {
+            char a = (char)toupper(*one), b = (char)toupper(*other);
+            uncertain((char[]){*one, *other, 0}, (uint64_t)uncertain_pair_some(a, b) << 32 | (uint64_t)uncertain_pair_every(a, b) << 48);
+        }
+    }
+}
+
+/* 1,023 to 1,025 codes: with an uncertain middle place, then with a pair of them; more than 1,024 are refused whatever they are */
+static void uncertain_at_the_limit(void)
+{
+    char text[1026] = "";
+    memset(text, 'a', 1023);
+    uncertain(text, 1023ull << 32 | 1023ull << 48);
+    text[511] = 'n'; /* the middle */
+    uncertain(text, 1023ull << 32 | 1023ull << 48);
+    text[1023] = 'A';
+    uncertain(text, 1024ull << 32 | 1023ull << 48);
+    text[512] = 'N';
+    uncertain(text, 1024ull << 32 | 511ull << 48);
+    text[1023] = 'u';
+    uncertain(text, 4);
+    text[1023] = text[1024] = 'A';
+    uncertain(text, 5);
+    text[0] = 'U';
+    uncertain(text, 5);
+    text[1024] = 0;
+    uncertain(text, 4);
+}
+
+static void uncertain_texts(void)
+{
+    uncertain_by_hand();
+    uncertain_of_two();
+    uncertain_at_the_limit();
+}
+
 /* ---- printed as in GenBank, 02 (iv) */
 
 /* the first n of these letters as a record, and its page; the page is the same in either reading */
@@ -1049,6 +1109,7 @@ int main(void)
     places_of_rows_taken_again(2);
     places_of_pairs();
     room_for_minimal();
+    uncertain_texts();
     lengths_of_pages();
     longest_of_all();
     longest_search();

@@ -19,7 +19,10 @@
     X(LETTER, letter) X(ROW, row) X(FREQUENCY, frequency) X(SPELL, spell) X(FIND, find) X(LIST, list)             \
     X(GENBANK, genbank) X(MINIMAL_UNIQUE, minimal_unique)
 
-#define EACH_CALL(X) EACH_OPENING(X) EACH_STORE_CALL(X) X(FASTA, fasta)
+/* the calls that take a text and no store */
+#define EACH_TEXT_CALL(X) X(FASTA, fasta) X(UNCERTAIN, uncertain)
+
+#define EACH_CALL(X) EACH_OPENING(X) EACH_STORE_CALL(X) EACH_TEXT_CALL(X)
 
 #define LIBRARY_ENTRY(kind, name) __typeof__(mirror_##name) *name;
 #define LIBRARY_ONE(kind, name) +1

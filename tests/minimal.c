@@ -305,7 +305,8 @@ int main(int argc, char **argv)
         must("rows that fall from one listed repeat to the next", 1, falling[record.reading] > 0);
         must("a start above 255", 1, wide[record.reading] > 0);
     }
-    printf("%lu records with %lu minimal unique repeats, at most %lu in one, %lu of them by lemma 5 too: %lu lists, %lu rooms too small and %lu stores that are not good refused; %lu and %lu rows with a higher inner row\n",
-           records, listed, most, by_lemma, lists, refused, damaged, above[PLAIN], above[INVERTED]);
+    printf("%lu records with %lu minimal unique repeats, at most %lu in one, %lu of them by lemma 5 too: ", records, listed, most, by_lemma);
+    printf("%lu lists, %lu rooms too small and %lu stores that are not good refused; ", lists, refused, damaged);
+    printf("%lu and %lu rows with a higher inner row\n", above[PLAIN], above[INVERTED]);
     return 0;
 }

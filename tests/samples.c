@@ -2,11 +2,13 @@
  * after each call follow from the calls that the key says were accepted, and so do the rows: a new repeat takes the row that
  * was freed last or, where none is left of those, the lowest that was never taken; an opening and a turn to the other reading
  * begin anew, and after a turn the repeats take their rows in the order in which they first end. So every accepted call has one
- * right answer, and every table of rows one right content; the page of a record is that of a second writer. A dozen sittings, each
- * with a title of its own (##), are the least. It makes no call: that the library answers what the keys say is what tests/key looks
- * at. Usage: samples KEY.. */
+ * right answer, and every table of rows one right content; the page of a record is that of a second writer, and the lengths of a text
+ * of uncertain bases, or its refusal, are those of a second program, which makes every choice where the text is short. A dozen
+ * sittings, each with a title of its own (##), are the least. It makes no call: that the library answers what the keys say is what
+ * tests/key looks at. Usage: samples KEY.. */
 #include "brute.h"
 #include "second_page.h"
+#include "second_uncertain.h"
 #include <ctype.h>
 #include <stdio.h>
 #include <stdlib.h>
@@ -218,6 +220,22 @@ static void say_minimal(const char *room, char *said)
     for (size_t i = 0; i < n; i++) said += sprintf(said, "%s%zu to %zu", i ? ", " : "", all[i].start, all[i].end);
 }
 
+static int about_codes(const char *call)
+{
+    return strcmp(call, "uncertain") == 0 || strncmp(call, "uncertain ", 10) == 0;
+}
+
+static void say_uncertain(const char *codes, char *said)
+{
+    const uint8_t *bytes = (const uint8_t *)codes;
+    size_t n = strlen(codes);
+    unsigned refusal = second_refusal(bytes, n);
+    second_longest of = {0};
+    if (refusal == 0) of = n <= MOST_CHOSEN ? second_by_choices(bytes, n) : second_by_stretches(bytes, n);
+    if (refusal) sprintf(said, "refused %u", refusal);
+    else sprintf(said, "%zu for some choice, %zu for every choice", of.some.length, of.every.length);
+}
+
 /* what every stretch answers to a question */
 static void ask(const char *call, char *said)
 {
@@ -239,6 +257,7 @@ static void ask(const char *call, char *said)
     else if (strncmp(call, "list ", 5) == 0) say_list(all, repeats, said);
     else if (strcmp(call, "genbank") == 0 || strncmp(call, "genbank ", 8) == 0) say_page(about, said);
     else if (strcmp(call, "minimal") == 0 || strncmp(call, "minimal ", 8) == 0) say_minimal(about, said);
+    else if (about_codes(call)) say_uncertain(about, said);
     else fail("a call", call, "none");
 }
 
@@ -261,7 +280,7 @@ static void call_line(char **cells)
 {
     char said[LINE];
     calls++;
-    if (strncmp(cells[1], "refused", 7) != 0) {
+    if (strncmp(cells[1], "refused", 7) != 0 || about_codes(cells[0])) { /* what codes are refused follows from the call alone */
         make(cells[0], said);
         compare(cells[0], cells[1], said);
         judged++;

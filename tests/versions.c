@@ -1,8 +1,8 @@
 /* Two versions of the library side by side: each call goes to both with the same arguments and equal bytes lent, and the
  * answers and every lent byte afterwards must be equal. Long sittings at both ends with turns and every question, structured
- * words up to full length with both ends asked at every letter, stores damaged in every way, FASTA texts, lists of repeats and of
- * the minimal unique ones, and pages; nothing is judged here but that both do the same, and that each leaves its scratch as a list
- * must. tests/versions builds the two.
+ * words up to full length with both ends asked at every letter, stores damaged in every way, FASTA texts, texts of uncertain bases,
+ * lists of repeats and of the minimal unique ones, and pages; nothing is judged here but that both do the same, and that each leaves
+ * its scratch as a list must. tests/versions builds the two.
  *
  *     versions ONE.so OTHER.so SEED CALLS [LEFT OUT..]
  *
@@ -16,11 +16,12 @@
 #include "fasta_texts.h"
 #include "guard.h"
 #include "random.h"
+#include "uncertain_texts.h"
 #include <stdio.h>
 #include <stdlib.h>
 #include <string.h>
 
-enum { MOST = 1024, PIECE = MOST + 8, FASTA_MOST = 8192, FASTA = LIBRARY_CALLS - 1 };
+enum { MOST = 1024, PIECE = MOST + 8, FASTA_MOST = 8192 };
 enum { TEXT_SLOT, OUT_SLOT, SCRATCH_SLOT = OUT_SLOT + 2, STORE_SLOT = SCRATCH_SLOT + 2 };
 enum { OUT_FILLING = 0x5a, SCRATCH_FILLING = 0xa5 };
 enum { EXTRA = 60 }; /* fewer bytes than this are lent beyond what a store needs; 48 would do for one letter more */
@@ -432,6 +433,28 @@ static void read_text(void)
     }
 }
 
+/* ---- texts of uncertain bases */
+
+/* codes in mixed case, or a few too many, and now and then a byte that may be none */
+static void read_codes(void)
+{
+    static const char none[] = "UuXxEz-@[`{ \n";
+    static uint8_t codes[MOST + 8];
+    size_t n = random_below(3) ? random_below(40) : random_below(4) ? random_below(MOST) : MOST - 4 + random_below(12);
+    uint64_t answers[2];
+    if (left_out[UNCERTAIN] == UINT64_MAX) return;
+    uncertain_text(random_below((unsigned)uncertain_kinds), codes, n);
+    uncertain_cases(codes, n);
+    unsigned spoilt = random_below(16);
+    if (n > 0 && spoilt < 2) codes[random_below((unsigned)n)] = (uint8_t)(spoilt ? random_below(256) : (unsigned char)none[random_below(sizeof none - 1)]);
+    for (int i = 0; i < 2; i++) {
+        text = guarded(TEXT_SLOT, codes, n);
+        answers[i] = both[i].uncertain(text, n);
+        if (n > 0 && memcmp(text, codes, n) != 0) differ(UNCERTAIN, "the text lent", 0, 1);
+    }
+    same_answer(UNCERTAIN, answers);
+}
+
 /* ---- all of it */
 
 static size_t some_capacity(void)
@@ -453,7 +476,10 @@ static void run(void)
         sitting(some_capacity(), alphabet);
         for (unsigned i = 0; !stores_apart && i < 6; i++) spoil_somehow(alphabet);
         if (random_below(16) == 0) word_sitting(some_word_length());
-        for (unsigned i = 0; i < 20; i++) read_text();
+        for (unsigned i = 0; i < 20; i++) {
+            read_text();
+            read_codes();
+        }
     }
 }
 
