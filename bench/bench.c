@@ -1,19 +1,22 @@
 /* The benchmark: the library beside its C twin, in one run, on five words and four sizes in either reading, inverted
  * records beside plain ones, turns, frequency, occurrences, genbank, the minimal unique palindromes and the longest length beside
- * length, removals and the longest at an end beside additions, and finding a piece of a million letters beside testing them.
+ * length, removals and the longest at an end beside additions, finding a piece of a million letters beside testing them, and the
+ * two lengths of texts of uncertain bases.
  *
  * Prints ratios, library over twin, since times of one machine say little; a ratio above the limit is marked with !.
  * The argument names the file that gets the drawing of growth. Ends with 1 if a tested call at 1,000 letters, a fill or
  * reading FASTA is above its limit, or if at 1,000 letters an inverted record beside a plain one, a turn, frequency,
  * occurrences, genbank, the minimal unique palindromes or the longest length beside length, or a removal or the longest at an end
  * beside an addition, takes longer than it may, or a piece of a million letters that breaks at its first pair longer than the
- * test of its letters. */
+ * test of its letters, or the two lengths of 1,024 codes longer than they may. */
 #include <math.h>
 
 #include "calls.h"
 #include "cells.h"
+#include "codes.h"
 #include "draw.h"
 #include "timing.h"
+#include "twin.h"
 #include "words.h"
 
 static const size_t sizes[] = {125, 250, 500, 1000};
@@ -353,6 +356,35 @@ static int long_pieces(void)
     return above;
 }
 
+/* The times of a text of codes and their ratio; how many of the library's time and the ratio are above their limits. */
+static int code_figures(struct pair times, double limit)
+{
+    double ratio = times.library / times.twin;
+    printf("%10.1f%s%10.1f%8.2f%s\n", times.library, mark(times.library, limit), times.twin, ratio, mark(ratio, RATIO_LIMIT));
+    return (times.library > limit) + (ratio > RATIO_LIMIT);
+}
+
+/* The two lengths of texts of codes; how many figures are above their limits. */
+static int uncertain_texts(void)
+{
+    uint8_t text[CODES_MOST];
+    int above = 0;
+    printf("\nThe two lengths of 1,024 codes: pairs of places compared, microseconds of the library and of the twin, and their ratio; ! "
+           "where above %.0f, on texts by chance %.0f, or %.0f if each is new, and %.1f\n", UNCERTAIN_LIMIT, UNCERTAIN_RANDOM_LIMIT,
+           UNCERTAIN_NEW_LIMIT, RATIO_LIMIT);
+    printf("\n%-26s%10s%10s%11s%8s\n", "1024 codes", "pairs", "library", "twin", "ratio");
+    for (int t = 0; t < CODE_TEXTS; t++) {
+        make_codes(t, text);
+        printf("  %-24s%10zu", code_text_names[t], twin_uncertain_pairs(text, CODES_MOST));
+        above += code_figures(time_uncertain(t, SAMPLES), is_random_text(t) ? UNCERTAIN_RANDOM_LIMIT : UNCERTAIN_LIMIT);
+    }
+    for (int t = 0; is_random_text(t); t++) {
+        printf("  %-24s%10s", code_text_names[t], "each new");
+        above += code_figures(time_new_texts(t), UNCERTAIN_NEW_LIMIT);
+    }
+    return above;
+}
+
 /* Measures a call on a word at every size of the drawing, in rounds, so that no size has the machine's bad moment. */
 static void measure_growth(int call, int word, double *us)
 {
@@ -435,9 +467,10 @@ int main(int count, char **arguments)
     against_surfaces();
     above += without_a_test();
     above += long_pieces();
+    above += uncertain_texts();
     growth(out);
     list_growth();
     fclose(out);
-    printf("\n%d ratios above their limit at 1,000 letters\n", above);
+    printf("\n%d figures above their limit at 1,000 letters, or 1,024 codes\n", above);
     return above != 0;
 }

@@ -1,10 +1,10 @@
 /* Today's library beside that of another revision, in one run: every call on five words of 1,000 letters, the two in turn,
- * on records that each made with its own calls, plain ones and, where both can open such, inverted ones; and the fill with
- * no test between additions. What only one of them has is left out and told. The smallest of many samples counts. Where a
- * library happens to lie in memory seems to move a short call by several per cent, so several copies of each are loaded, a
- * round on each pair. Prints ratios, today over the other, for each call and word and for each call over the five words of a
- * reading (the geometric mean), and last the largest of these, the fill's aside: that one figure says whether a call got
- * slower.
+ * on records that each made with its own calls, plain ones and, where both can open such, inverted ones; the two lengths of
+ * five texts of codes; and the fill with no test between additions. What only one of them has is left out and told. The
+ * smallest of many samples counts. Where a library happens to lie in memory seems to move a short call by several per cent,
+ * so several copies of each are loaded, a round on each pair. Prints ratios, today over the other, for each call and word and
+ * for each call over the five words of a reading (the geometric mean), and last the largest of these, the fill's aside: that
+ * one figure says whether a call got slower.
  *
  *     beside FOLDER [LIMIT [FILL]]     FOLDER/today-1.so, FOLDER/other-1.so, today-2.so and so on, COPIES of each, and the
  *                                      same of the crate bench_fill, today-fill-1.so and so on; ends with 1 if that figure
@@ -19,10 +19,11 @@
 
 #include "calls.h"
 #include "clock.h"
+#include "codes.h"
 #include "words.h"
 
 enum { LETTERS = 1000, CAPACITY = LETTERS + 24, COPIES = 8, ROUNDS = 8 * COPIES, SAMPLES = 60 };
-enum { FASTA = CALLS, MASKED, FILL, ALL };
+enum { FASTA = CALLS, MASKED, UNCERTAIN, FILL, ALL };
 
 typedef uint64_t fill(uint8_t *store, size_t length, const uint8_t *letters, size_t n);
 
@@ -32,7 +33,8 @@ static unsigned char has[2][LIBRARY_CALLS];
 static struct sitting records[2][BOTH_WORDS], s;
 static uint8_t fasta_texts[2][2 * LETTERS + 6], fasta_text[2 * LETTERS + 6];
 static size_t fasta_length;
-static uint8_t fill_letters[LETTERS];
+static const int code_texts[WORDS] = {CODES_RANDOM, CODES_BASES, CODES_A_N_C, CODES_C_N_C, CODES_CLIMBED};
+static uint8_t fill_letters[LETTERS], code_text[CODES_MOST];
 static int64_t least[ALL][BOTH_WORDS][2];
 static bool astray[ALL]; /* refused, or a piece found that is absent, or the other way round */
 static volatile uint64_t sink;
@@ -78,6 +80,8 @@ static uint64_t run(int call, int side)
 {
     if (call == FILL)
         return fills[side](s.store, s.length, fill_letters, LETTERS) == LETTERS ? 0 : 1;
+    if (call == UNCERTAIN)
+        return measured->uncertain(code_text, sizeof code_text);
     return reads_fasta(call) ? measured->fasta(fasta_text, fasta_length, s.out, s.out_length) : calls[call].library(&s);
 }
 
@@ -118,6 +122,8 @@ static void measure(int call, int word)
         make_texts(call, word);
     if (call == FILL)
         make_word(word, fill_letters, LETTERS);
+    if (call == UNCERTAIN)
+        make_codes(code_texts[word], code_text);
     for (int i = 0; i < SAMPLES; i++)
         for (int turn = 0; turn < 2; turn++) {
             int side = (i + turn) % 2;
@@ -131,7 +137,7 @@ static void measure(int call, int word)
 /* calls[] has the calls that take a store */
 static const char *name_of(int call)
 {
-    static const char *const others[] = {"fasta", "fasta, mixed case", "fill"};
+    static const char *const others[] = {"fasta", "fasta, mixed case", "uncertain", "fill"};
     return call < CALLS ? calls[call].name : others[call - CALLS];
 }
 
@@ -172,33 +178,45 @@ static double print_call(int call, int reading, int64_t cost)
     return astray[call] ? INFINITY : over_all;
 }
 
-static void heading(const char *title, int reading)
+static void heading(const char *title, const char *const names[WORDS])
 {
     printf("\n%-26s", title);
-    for (int word = reading * WORDS; word < (reading + 1) * WORDS; word++)
-        printf("%13s", word_names[word]);
+    for (int word = 0; word < WORDS; word++)
+        printf("%13s", names[word]);
     printf("%10s\n", "all");
 }
 
 /* The fill, which is no call of the library: its ratio over all words, 0 where only one of the two has it. */
 static double print_fill(void)
 {
-    heading("no test between letters", 0);
+    heading("no test between letters", word_names);
     if (in_both(FILL))
         return print_call(FILL, 0, clock_cost());
     printf("  %-24s  not in both\n", name_of(FILL));
     return 0;
 }
 
+/* The two lengths, which take no word of letters: their ratio over all texts, 0 where only one of the two has them. */
+static double print_uncertain(int64_t cost)
+{
+    const char *names[WORDS];
+    if (!in_both(UNCERTAIN))
+        return 0;
+    for (int text = 0; text < WORDS; text++)
+        names[text] = code_text_names[code_texts[text]];
+    heading("texts of 1024 codes", names);
+    return print_call(UNCERTAIN, 0, cost);
+}
+
 /* Every call; the largest ratio over all words of a reading, which is told with its call. */
 static double print_calls(void)
 {
-    double largest = 0;
     int64_t cost = clock_cost();
-    int of = 0, read = 0;
+    int of = UNCERTAIN, read = 0;
+    double largest = print_uncertain(cost);
     for (int reading = 0; reading < readings(); reading++) {
-        heading(reading ? "inverted records" : "plain records", reading);
-        for (int call = 0; call < FILL; call++) {
+        heading(reading ? "inverted records" : "plain records", word_names + reading * WORDS);
+        for (int call = 0; call < UNCERTAIN; call++) {
             double ratio = timed(call, reading) ? print_call(call, reading, cost) : 0;
             if (ratio > largest)
                 largest = ratio, of = call, read = reading;

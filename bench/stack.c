@@ -2,17 +2,18 @@
  * changed is looked up afterwards; a call of an empty function is taken off. The records are full ones of 1,024
  * letters in either reading, a letter less for additions, where spelling and finding have the longest palindrome there is,
  * the list the most lines, genbank the longest page and a turn the most letters to set aside. What the list takes beyond length,
- * which is the test and one read, is told too. Ends with 1 if a call takes more than 64 KiB, or frequency, occurrences or
- * minimal_unique more than 8. */
+ * which is the test and one read, is told too. Ends with 1 if a call takes more than 64 KiB, frequency, occurrences or
+ * minimal_unique more than 8, or uncertain more than 4. */
 #include <stdio.h>
 #include <string.h>
 #include <ucontext.h>
 
 #include "../include/mirror.h"
 #include "calls.h"
+#include "codes.h"
 #include "words.h"
 
-enum { STACK = 1 << 20, PAINT = 0xa5, LIMIT = 64 * 1024, COUNTS_LIMIT = 8 * 1024 };
+enum { STACK = 1 << 20, PAINT = 0xa5, LIMIT = 64 * 1024, COUNTS_LIMIT = 8 * 1024, CODES_LIMIT = 4 * 1024 };
 
 static uint8_t stack[STACK];
 static struct sitting s, before;
@@ -50,11 +51,27 @@ static uint64_t read_fasta(struct sitting *unused)
 {
     static uint8_t text[3 + CAPACITY_MOST] = ">e\n", letters[CAPACITY_MOST];
     (void)unused;
-    make_word(0, text + 3, CAPACITY_MOST);
+    make_word(RANDOM, text + 3, CAPACITY_MOST);
     return mirror_fasta(text, sizeof text, letters, sizeof letters);
 }
 
-/* The most that a call takes over the words; 0 where it was refused, which would measure little. */
+/* The two lengths of 1,024 codes, which take no store either. */
+static uint64_t tell_uncertain(struct sitting *unused)
+{
+    static uint8_t text[CODES_MOST];
+    (void)unused;
+    make_codes(CODES_RANDOM, text);
+    return mirror_uncertain(text, sizeof text);
+}
+
+/* What a call takes; 0 where it was refused, which would measure little. */
+static size_t taken_by(uint64_t (*call)(struct sitting *))
+{
+    size_t empty = depth_of(nothing), depth = depth_of(call) - empty;
+    return mirror_refusal(answer) == 0 ? depth : 0;
+}
+
+/* The most that a call takes over the words; 0 where it was refused. */
 static size_t most_of(int call, int *word)
 {
     size_t most = 0;
@@ -64,11 +81,11 @@ static size_t most_of(int call, int *word)
         before = s;
         calls[call].library(&s); /* once, so that the loader has bound what the call needs */
         s = before;
-        size_t empty = depth_of(nothing), depth = depth_of(calls[call].library) - empty;
-        if ((answer & 0xff) != 0)
+        size_t taken = taken_by(calls[call].library);
+        if (taken == 0)
             return 0;
-        if (depth > most) {
-            most = depth;
+        if (taken > most) {
+            most = taken;
             *word = w;
         }
     }
@@ -81,10 +98,9 @@ static size_t limit_of(int call)
 }
 
 /* The line of a call: the most that it takes, and on which word; whether that is too much. */
-static bool line(int call, size_t most, int word)
+static bool line(const char *name, size_t most, size_t limit, const char *word, bool inverted)
 {
-    size_t limit = limit_of(call);
-    printf("  %-24s%8zu  %s%s", calls[call].name, most, word_names[word], word_reading(word) ? ", inverted" : "");
+    printf("  %-24s%8zu  %s%s", name, most, word, inverted ? ", inverted" : "");
     if (most == 0)
         printf("  refused!");
     if (most > limit)
@@ -101,10 +117,10 @@ int main(void)
     for (int call = 0; call < CALLS; call++) {
         int word = 0;
         of_call[call] = most_of(call, &word);
-        bad += line(call, of_call[call], word);
+        bad += line(calls[call].name, of_call[call], limit_of(call), word_names[word], word_reading(word));
     }
     printf("  %-24s%+8td\n", "list, over length", (ptrdiff_t)of_call[CALL_LIST] - (ptrdiff_t)of_call[CALL_LENGTH]);
-    size_t empty = depth_of(nothing), fasta = depth_of(read_fasta) - empty;
-    printf("  %-24s%8zu%s\n", "fasta", fasta, (answer & 0xff) != 0 ? "  refused!" : "");
-    return bad != 0 || (answer & 0xff) != 0 || fasta > LIMIT;
+    bad += line("fasta", taken_by(read_fasta), LIMIT, word_names[RANDOM], false);
+    bad += line("uncertain", taken_by(tell_uncertain), CODES_LIMIT, code_text_names[CODES_RANDOM], false);
+    return bad != 0;
 }

@@ -32,6 +32,12 @@ struct pair {
 #define END_LIMIT 1.2
 #define FIRST_PAIR_LIMIT 1.05
 
+/* The microseconds that the two lengths of 1,024 codes may take on any text, since their work is not linear, on one drawn by chance,
+ * and on such texts each of which is new. */
+#define UNCERTAIN_LIMIT 200.0
+#define UNCERTAIN_RANDOM_LIMIT 15.0
+#define UNCERTAIN_NEW_LIMIT 30.0
+
 /* One call on n letters of a word in a reading, 0 or 1; the smallest of many samples, library and twin one after the other. */
 struct pair time_call(int call, int word, int reading, size_t n, int samples);
 
@@ -64,6 +70,12 @@ void time_changes(int word, size_t n, int samples, struct ways *add, struct ways
 struct pair time_fill(int word, size_t n, int samples);
 struct pair time_fasta(int word, size_t n, int samples);
 struct pair time_masked_fasta(int word, size_t n, int samples);
+
+/* The two lengths of a text of codes (codes.h); and of texts of a kind that is drawn by chance, each met once, of which the middle
+ * one counts. A processor that has met a text some hundred times foresees where each search in it ends: on a text that is new to
+ * it the same work takes two to three times as long. */
+struct pair time_uncertain(int text, int samples);
+struct pair time_new_texts(int kind);
 
 /* The sizes at which the growth of a call's cost is measured. */
 enum { POINTS = 8, POINT_STEP = 125 };

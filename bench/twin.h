@@ -68,4 +68,9 @@ static inline uint64_t answer(bool flag, unsigned row, unsigned first, unsigned 
 /* Reading a FASTA text, which takes no store. */
 uint64_t twin_fasta(const uint8_t *text, size_t length, uint8_t *out, size_t out_length);
 
+/* The two lengths of a text of codes, which take no store either; and how many pairs of places that compares, 0 where the text is
+ * refused. */
+uint64_t twin_uncertain(const uint8_t *text, size_t length);
+size_t twin_uncertain_pairs(const uint8_t *text, size_t length);
+
 #endif
