@@ -11,7 +11,7 @@ pub record Code : Type 0 where
   pub letter : ℕ
   pub bases : Word
 
-abbrev pub code : ℕ → Word → Code
+abbrev code : ℕ → Word → Code
 code letter bases = record { letter = letter; bases = bases }
 
 -- 02 (xii) "the fifteen NC-IUB codes, each standing for a set of A, C, G and T: R is A or G, Y CT, M AC, K GT, S CG, W AT, B CGT, D AGT, H ACT,
