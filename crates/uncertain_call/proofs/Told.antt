@@ -1,6 +1,6 @@
 -- What a host reads in the answer: the number and both lengths, as the definitions say; the same for a text and for that text in capitals; and for the
 -- letters of a plain record what the record answers of its longest repeat. Rests on `Longest`, `Letters` and `Capitals` of `ambiguity`.
-use Prim.Native.Nat.{ℕ, zero, suc, _≤_}
+use Prim.Native.Nat.{ℕ, zero, suc, _≤_, _<_}
 use native.Mathlib.Omega.{arith}
 use mathlib.Core.Path.{_≡_, refl, sym, ap, ap₂, _∙_, subst}
 use mathlib.Core.Bool.{Bool, true, false}
@@ -36,19 +36,22 @@ pub reply-fits : (s : Word) → Fits (uncertainReply s)
 unfolding uncertainReply lengthsReply fault firstFault accepted refusedWith
 reply-fits s = go (ltb 1024 (length s)) (allCodes s) refl refl
   where
-    go : (over codes : Bool) → ltb 1024 (length s) ≡ over → allCodes s ≡ codes → Fits (lengthsReply (textRefusal s) s)
-    go true codes e f =
-        subst (λ (n : ℕ). Fits (lengthsReply n s)) (sym (by-faults s true codes e f))
-        (record { number = omega arith; row = omega arith; first = omega arith; second = omega arith })
-    go false false e f =
-        subst (λ (n : ℕ). Fits (lengthsReply n s)) (sym (by-faults s false false e f))
-        (record { number = omega arith; row = omega arith; first = omega arith; second = omega arith })
-    go false true e f =
-        let limit : length s ≤ 1024 = ltb-false 1024 (length s) e in
+    numbered : (n : ℕ) → textRefusal s ≡ n → Fits (lengthsReply n s) → Fits (lengthsReply (textRefusal s) s)
+    numbered n e f = subst (λ (k : ℕ). Fits (lengthsReply k s)) (sym e) f
+
+    refused : (n : ℕ) → n < 256 → Fits (refusedWith n)
+    refused n l = record { number = l; row = omega arith; first = omega arith; second = omega arith }
+
+    told : length s ≤ 1024 → allCodes s ≡ true → Fits (lengthsReply 0 s)
+    told l f =
         let fits = some-fits s f in
         let below = every-below-some s f in
-        subst (λ (n : ℕ). Fits (lengthsReply n s)) (sym (by-faults s false true e f))
-        (record { number = omega arith; row = omega arith; first = omega arith; second = omega arith })
+        record { number = omega arith; row = omega arith; first = omega arith; second = omega arith }
+
+    go : (over codes : Bool) → ltb 1024 (length s) ≡ over → allCodes s ≡ codes → Fits (lengthsReply (textRefusal s) s)
+    go true codes e f = numbered 5 (by-faults s true codes e f) (refused 5 (omega arith))
+    go false false e f = numbered 4 (by-faults s false false e f) (refused 4 (omega arith))
+    go false true e f = numbered 0 (by-faults s false true e f) (told (ltb-false 1024 (length s) e) f)
 
 module _ {s : Word} {r : ℕ} (told : UncertainPromise s r) where
   -- what the functions of include/mirror.h read in the number
