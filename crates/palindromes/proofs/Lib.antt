@@ -27,3 +27,11 @@ pub mod Search
 pub mod SearchSteps
 pub mod Readings
 pub mod Mismatch
+pub mod Choice
+pub mod Starts
+pub mod PalindromicLengths
+pub mod Factorizations
+pub mod MinimalFactorization
+pub mod OneFactorization
+pub mod FactorEnds
+pub mod FactorizationChange

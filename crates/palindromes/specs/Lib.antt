@@ -14,4 +14,5 @@ pub mod Eertree
 pub mod Bed
 pub mod Genbank
 pub mod Fasta
+pub mod Factorization
 pub mod Refusal
