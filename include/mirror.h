@@ -4,9 +4,10 @@
  * that a damaged one is refused and never followed. Opening needs no good store: it makes an empty record of whatever the
  * bytes held, a live record too. Buffers of one call must not overlap. Nothing is allocated.
  *
- * A record is plain or inverted, as it was opened or last turned, and every call that takes a store works on either. A
- * repeat of a plain record is a stretch that equals its reversal; of an inverted one, a stretch that equals its reversal
- * with every letter replaced by its partner, A with T and C with G, as restriction sites do.
+ * A record is plain or inverted, as it was opened or last turned, and every call that takes a store works on either, but for
+ * mirror_pieces, which cuts plain records only. A repeat of a plain record is a stretch that equals its reversal; of an
+ * inverted one, a stretch that equals its reversal with every letter replaced by its partner, A with T and C with G, as
+ * restriction sites do.
  *
  * Every call answers one number: byte 0 (lowest) is the refusal number, 0 where the call was carried out; byte 1 a
  * flag; bytes 2 and 3 a row; bytes 4 and 5 a first, bytes 6 and 7 a second number. The two sums of mirror_occurrences alone
@@ -32,6 +33,8 @@ extern "C" {
 #define MIRROR_GENBANK_SIZE(letters) (10 + (size_t)(letters) + ((size_t)(letters) + 9) / 10 + 10 * (((size_t)(letters) + 59) / 60))
 /* Output that is always enough for the minimal unique repeats of so many letters, four bytes for each that there is. */
 #define MIRROR_MINIMAL_UNIQUE_SIZE(letters) (4 * (size_t)(letters))
+/* Output that is always enough for the ends of the fewest pieces of so many letters, two bytes for each piece. */
+#define MIRROR_PIECES_SIZE(letters) (2 * (size_t)(letters))
 
 enum {
     MIRROR_CAPACITY = 1,    /* opening: capacity outside 1 to 1,024 */
@@ -44,7 +47,8 @@ enum {
     MIRROR_NO_PIECE = 8,    /* piece empty */
     MIRROR_NO_ROOM = 9,     /* buffer shorter than needed */
     MIRROR_IDENTIFIER = 10, /* identifier not 1 to 32 letters, digits or underscores; FASTA: first line not right */
-    MIRROR_SECOND_HEADER = 11 /* FASTA: a later line begins with `>` */
+    MIRROR_SECOND_HEADER = 11, /* FASTA: a later line begins with `>` */
+    MIRROR_INVERTED = 14    /* pieces: record inverted */
 };
 
 uint64_t mirror_open(uint8_t *store, size_t length, uint64_t capacity);
@@ -102,6 +106,12 @@ uint64_t mirror_genbank(const uint8_t *store, size_t length, uint8_t *out, size_
  * stands goes to the front of `out`, by start: the place of its first letter and the place one past its last, two bytes each,
  * low byte first, which mirror_start and mirror_end read. So each takes four bytes; output beyond them stays. */
 uint64_t mirror_minimal_unique(const uint8_t *store, size_t length, uint8_t *out, size_t out_length);
+/* A plain record cut into as few repeats as it can be. How many pieces that takes is the first number: never more than the record
+ * has letters, 1 exactly if the whole record is a repeat, 0 for an empty one. Where each piece ends goes to the front of `out`, from
+ * the left, the place one past its last letter in two bytes, low byte first, which mirror_piece_end reads; output beyond them stays.
+ * Of all cuttings into so few it is the one whose last piece is the longest, then the one before it, and so on. An inverted record
+ * may have no cutting and is refused with 14, an empty one too, however short `out` is. */
+uint64_t mirror_pieces(const uint8_t *store, size_t length, uint8_t *out, size_t out_length);
 /* Reads a FASTA text of any length; needs no store. The identifier stands behind the first `>`, and its length is the
  * first number; the letters go to the front of `out`, and how many is the second. 1,024 bytes are always room enough. In
  * the lines after the first a, c, g and t are read, and written, as A, C, G and T; additions and find take capitals only. */
@@ -126,6 +136,8 @@ static inline uint32_t mirror_by_ends(uint64_t answer) { return (uint32_t)(answe
  * its last. */
 static inline unsigned mirror_start(const uint8_t *out, size_t i) { return out[4 * i] + 256u * out[4 * i + 1]; }
 static inline unsigned mirror_end(const uint8_t *out, size_t i) { return out[4 * i + 2] + 256u * out[4 * i + 3]; }
+/* Where piece i, from 0, ends in what mirror_pieces wrote. It begins where the piece before it ends, the first at 0. */
+static inline unsigned mirror_piece_end(const uint8_t *out, size_t i) { return out[2 * i] + 256u * out[2 * i + 1]; }
 
 #ifdef __cplusplus
 }

@@ -4,7 +4,7 @@ ghost use Rattle.palindromes.specs.Reading.{asPlain, asInverted};
 ghost use Rattle.palindromes.specs.End.{atLeft, atRight};
 ghost use mathlib.Core.List.{[]};
 ghost use Rattle.palindromes.specs.Refusal.{add, remove, turn, theLength, theCount, theLongest, theLongestLength, theLongestAt, theLetter, theRow};
-ghost use Rattle.palindromes.specs.Refusal.{theFrequency, theOccurrences, spell, find, list, page, theMinimalUnique};
+ghost use Rattle.palindromes.specs.Refusal.{theFrequency, theOccurrences, spell, find, list, page, theMinimalUnique, thePieces};
 ghost use Rattle.fasta_call.specs.Answer.{FastaPromise};
 ghost use Rattle.uncertain_call.specs.Answer.{UncertainPromise};
 ghost use Rattle.outcome.specs.Promise.{lending, nothing, Promise, OpeningPromise, FreeRow, Asked};
@@ -198,6 +198,14 @@ pub extern "C" fn mirror_minimal_unique(store: &[u8], out: &mut [u8]) -> u64
     ensures { λ r. ⌜ Asked theMinimalUnique (now (store .entry)) (lending [] (now (out .entry))) r (lending [] (now (out .exit))) ⌝ }
 {
     minimal_unique_call::list_minimal_unique(store, out)
+}
+
+// Cuts a plain record into the fewest repeats: how many there are, and where each ends, two bytes each.
+#[no_mangle]
+pub extern "C" fn mirror_pieces(store: &[u8], out: &mut [u8]) -> u64
+    ensures { λ r. ⌜ Asked thePieces (now (store .entry)) (lending [] (now (out .entry))) r (lending [] (now (out .exit))) ⌝ }
+{
+    pieces_call::list_pieces(store, out)
 }
 
 // Reads a FASTA text: the identifier's length and the number of letters, which go to the buffer.

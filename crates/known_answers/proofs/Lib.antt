@@ -2,3 +2,4 @@ pub mod Claim
 pub mod Pages
 pub mod MinimalUnique
 pub mod Uncertain
+pub mod Pieces

@@ -36,7 +36,7 @@ pub data Answer : Type 0 where
 
 -- a good store of the given capacity that shows the given letters
 unfoldable pub viewOf : ℕ → Word → View
-viewOf capacity s = record { size = storeSize capacity; scratch = 0; out = 0; good = true; capacity = capacity; letters = s; row = λ r. none }
+viewOf capacity s = record { size = storeSize capacity; scratch = 0; out = 0; good = true; capacity = capacity; reading = 0; letters = s; row = λ r. none }
 
 -- the refusal's number where it is not 0, and else the answer
 unfoldable pub unlessRefused : ℕ → Answer → Answer

@@ -6,3 +6,4 @@ pub mod Mismatches
 pub mod Pages
 pub mod MinimalUnique
 pub mod Uncertain
+pub mod Pieces

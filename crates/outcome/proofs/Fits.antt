@@ -16,7 +16,7 @@ use Rattle.palindromes.specs.Record.{palindromes, count, least, longestPlace}
 use Rattle.palindromes.specs.Occurrences.{occurrencesByRow, occurrencesByEnd}
 use Rattle.palindromes.specs.End.{End, atLeft, atRight, letterAt}
 use Rattle.palindromes.specs.Node.{Node, imaginary, spelt, lengthOf, spellingOf}
-use Rattle.palindromes.specs.Refusal.{Question, theLength, theCount, theLongest, theLongestLength, theOccurrences, page, theMinimalUnique}
+use Rattle.palindromes.specs.Refusal.{Question, theLength, theCount, theLongest, theLongestLength, theOccurrences, page, theMinimalUnique, thePieces}
 use Rattle.palindromes.specs.Refusal.{theLongestAt, theLetter, theRow, theFrequency, spell, find, list, Call, opening, add, remove, turn, ask}
 use Rattle.palindromes.specs.Refusal.{refusal}
 use Rattle.palindromes.proofs.Tests.{both-true}
@@ -29,6 +29,7 @@ use Rattle.palindromes.specs.SearchSteps.{searchSteps, reportedSteps}
 use Rattle.palindromes.proofs.SearchSteps.{steps-few}
 use Rattle.palindromes.proofs.Mismatch.{mismatch-small}
 use Rattle.palindromes.proofs.MinimalUniqueList.{minimal-few}
+use Rattle.palindromes.proofs.PalindromicLengths.{length-most}
 use Rattle.bed.proofs.Listing.{listing-most}
 use Rattle.genbank.proofs.Size.{page-most}
 use Rattle.eertree.proofs.Rows.{reachOf, row-reach-most, word-row}
@@ -129,6 +130,7 @@ module _ {b : Word} (g : Good b) where
   answer-fits theOccurrences l z = let n = few-occurrences in wide-fits _ _ (n .0) (n .1)
   answer-fits page l z = fits _ (omega arith) (omega (arith, page-most (lettersIn b) few)) (omega arith)
   answer-fits theMinimalUnique l z = fits _ (omega arith) (omega (arith, minimal-few (ruleOf b) (lettersIn b), few)) (omega arith)
+  answer-fits thePieces l z = fits _ (omega arith) (omega (arith, length-most (ruleOf b) (lettersIn b), few)) (omega arith)
   answer-fits (theLongestAt e) l z = fits _ (row-of-small g _) (omega arith) (omega arith)
   answer-fits (theLetter i) l z = fits _ (omega arith) (letter-small (lettersIn b) i (g .letters)) (omega arith)
   answer-fits (theRow r) l z = fits _ (row-of-small g _) (length-small r (row-used b l r z)) (row-of-small g _)

@@ -7,7 +7,7 @@ use native.Mathlib.Omega.{arith}
 use mathlib.Core.Path.{_≡_, refl, sym, ap, ap₂, _∙_}
 use mathlib.Core.Bool.{Bool, true, false}
 use mathlib.Core.List.{List, [], _∷_}
-use lib.Dec.{ltb}
+use lib.Dec.{ltb, eqb}
 use lib.ListN.{length}
 use borrow.Author.Tests.{lt-ltb, le-ltb, ltb-false}
 use Rattle.palindromes.specs.Word.{Word}
@@ -15,8 +15,11 @@ use Rattle.palindromes.specs.Interval.{intervalBytes}
 use Rattle.palindromes.specs.MinimalUnique.{minimalUnique}
 use Rattle.palindromes.specs.Node.{spellingOf}
 use Rattle.palindromes.specs.Genbank.{genbank}
-use Rattle.palindromes.specs.Refusal.{Question, page, theMinimalUnique, spell, ask, fault, firstFault, faults, questionFaults, refusal, isFree, spellingLength}
-use Rattle.store.specs.Layout.{usedIn, lettersIn}
+use Rattle.palindromes.specs.Reading.{readingNumber}
+use Rattle.palindromes.specs.Factorization.{palindromicLength, factorEnds, endBytes}
+use Rattle.palindromes.specs.Refusal.{Question, page, theMinimalUnique, thePieces, spell, ask, fault, firstFault, faults, questionFaults, refusal}
+use Rattle.palindromes.specs.Refusal.{isFree, spellingLength}
+use Rattle.store.specs.Layout.{readingIn, usedIn, lettersIn}
 use Rattle.store.specs.Good.{ruleOf, nodeIn}
 use Rattle.outcome.specs.Reply.{Reply, packed, accepted, answer, answered}
 use Rattle.outcome.specs.Outcome.{Lent, Outcome, viewIn, written, answerTo, lentAfter, acceptedOutcome, refusedOutcome, outcome}
@@ -70,35 +73,43 @@ spell-allowed r b l a =
 pub record Writing (q : Question) (n : ℕ) (w b : Word) : Type 0 where
   pub answers : answerTo q b ≡ answer false 0 n 0
   pub leaves : (l : Lent) → lentAfter q b l ≡ lending (l .scratch) (written w (l .out))
-  pub measured : (l : Lent) → questionFaults (ruleOf b) (viewIn b l) q ≡ fault 9 (ltb (length (l .out)) (length w)) ∷ []
+  pub measured : (l : Lent) → refusal (ruleOf b) (viewIn b l) (ask q) ≡ firstFault (fault 9 (ltb (length (l .out)) (length w)) ∷ [])
 
 pub page-writing : (b : Word) → Writing page (length (genbank (lettersIn b))) (genbank (lettersIn b)) b
-unfolding answerTo lentAfter questionFaults viewIn
+unfolding answerTo lentAfter refusal faults questionFaults viewIn firstFault fault
 page-writing b = record { answers = refl; leaves = λ l. refl; measured = λ l. refl }
 
 pub minimal-writing : (b : Word)
     → let list = minimalUnique (ruleOf b) (lettersIn b) in
     Writing theMinimalUnique (length list) (intervalBytes list) b
-unfolding answerTo lentAfter questionFaults viewIn
+unfolding answerTo lentAfter refusal faults questionFaults viewIn firstFault fault
 minimal-writing b = record { answers = refl; leaves = λ l. refl; measured = λ l. refl }
 
-module _ {q : Question} {n : ℕ} {w b : Word} (f : Writing q n w b) (l : Lent) where
-  -- its number, by the length of the output
-  number-is : refusal (ruleOf b) (viewIn b l) (ask q) ≡ firstFault (fault 9 (ltb (length (l .out)) (length w)) ∷ [])
-  unfolding refusal faults viewIn firstFault fault
-  number-is = ap firstFault (f .measured l)
+-- the pieces of a plain record
+pub pieces-writing : (b : Word) → readingIn b ≡ 0
+    → Writing thePieces (palindromicLength (ruleOf b) (lettersIn b)) (endBytes (factorEnds (ruleOf b) (lettersIn b))) b
+unfolding answerTo lentAfter refusal faults questionFaults viewIn firstFault fault readingNumber
+pieces-writing b z =
+    record {
+      answers = refl;
+      leaves = λ l. refl;
+      measured = λ l.
+          let short = ltb (length (l .out)) (length (endBytes (factorEnds (ruleOf b) (lettersIn b)))) in
+          ap (λ (m : ℕ). firstFault (fault 14 (eqb m 1) ∷ fault 9 short ∷ [])) z;
+    }
 
+module _ {q : Question} {n : ℕ} {w b : Word} (f : Writing q n w b) (l : Lent) where
   pub too-short : length (l .out) < length w → refusal (ruleOf b) (viewIn b l) (ask q) ≡ 9
   unfolding firstFault fault
-  too-short h = number-is ∙ ap (λ (t : Bool). firstFault (fault 9 t ∷ [])) (lt-ltb (length (l .out)) (length w) h)
+  too-short h = f .measured l ∙ ap (λ (t : Bool). firstFault (fault 9 t ∷ [])) (lt-ltb (length (l .out)) (length w) h)
 
   pub long-enough : length w ≤ length (l .out) → refusal (ruleOf b) (viewIn b l) (ask q) ≡ 0
   unfolding firstFault fault
-  long-enough h = number-is ∙ ap (λ (t : Bool). firstFault (fault 9 t ∷ [])) (le-ltb (length (l .out)) (length w) h)
+  long-enough h = f .measured l ∙ ap (λ (t : Bool). firstFault (fault 9 t ∷ [])) (le-ltb (length (l .out)) (length w) h)
 
   -- and where it is not refused, there is room
   pub room : refusal (ruleOf b) (viewIn b l) (ask q) ≡ 0 → length w ≤ length (l .out)
-  room z = ltb-false (length (l .out)) (length w) (passed 8 _ (none-applies _ (sym number-is ∙ z) .0))
+  room z = ltb-false (length (l .out)) (length w) (passed 8 _ (none-applies _ (sym (f .measured l) ∙ z) .0))
 
   -- what it comes to
   abbrev came : Reply → Lent → Outcome

@@ -7,17 +7,17 @@ use native.Mathlib.Omega.{arith}
 use native.Mathlib.Decide.{decLt}
 use lib.Dec.{eqb, leb, ltb}
 use lib.ListN.{length}
-use borrow.Author.Tests.{lt-leb, le-leb, lt-ltb, le-ltb, leb-true, leb-false, ltb-true, ltb-false}
+use borrow.Author.Tests.{eq-eqb, lt-leb, le-leb, lt-ltb, le-ltb, leb-true, leb-false, ltb-true, ltb-false}
 use Rattle.palindromes.specs.Word.{Word, isLetter, allLetters, isEmpty}
-use Rattle.palindromes.specs.Reading.{Reading}
+use Rattle.palindromes.specs.Reading.{Reading, readingNumber}
 use Rattle.palindromes.specs.End.{End}
 use Rattle.palindromes.specs.Node.{spellingOf}
 use Rattle.palindromes.specs.Bed.{isIdentifier, listing}
-use Rattle.palindromes.specs.Refusal.{Question, theLength, theCount, theLongest, theLongestLength, theOccurrences, page, theMinimalUnique}
+use Rattle.palindromes.specs.Refusal.{Question, theLength, theCount, theLongest, theLongestLength, theOccurrences, page, theMinimalUnique, thePieces}
 use Rattle.palindromes.specs.Refusal.{theLongestAt, theLetter, theRow, theFrequency, spell, find, list, View, questionFaults, Call, opening, add}
 use Rattle.palindromes.specs.Refusal.{remove, turn, ask, fault, firstFault, isFree, spellingLength, storeSize, scratchSize, faults, refusal}
 use Rattle.palindromes.proofs.Tests.{both-true, false-not-true, non-empty-is}
-use Rattle.store.specs.Layout.{capacityIn, usedIn, lettersIn}
+use Rattle.store.specs.Layout.{capacityIn, readingIn, usedIn, lettersIn}
 use Rattle.store.specs.Good.{ruleOf, nodeIn}
 use Rattle.outcome.specs.Outcome.{Lent, viewIn, unlessRefused, outcome, acceptedOutcome, refusedOutcome}
 
@@ -62,6 +62,7 @@ question-numbers σ v theLongestLength = tt
 question-numbers σ v theOccurrences = tt
 question-numbers σ v page = (row 9 _ refl, tt)
 question-numbers σ v theMinimalUnique = (row 9 _ refl, tt)
+question-numbers σ v thePieces = (row 14 _ refl, (row 9 _ refl, tt))
 question-numbers σ v (theLongestAt e) = (row 6 _ refl, tt)
 question-numbers σ v (theLetter i) = (row 7 _ refl, tt)
 question-numbers σ v (theRow r) = (row 7 _ refl, tt)
@@ -185,6 +186,10 @@ module _ (b : Word) (l : Lent) where
   pub spell-accepted : (r : ℕ) → usedIn b r ≡ true → length (spellingOf (nodeIn b r)) ≤ length (l .out) → refusal (ruleOf b) (viewIn b l) (ask (spell r)) ≡ 0
   unfolding refusal faults questionFaults viewIn firstFault fault isFree spellingLength
   spell-accepted r h k = rw (h, le-ltb (length (l .out)) (length (spellingOf (nodeIn b r))) k)
+
+  pub pieces-inverted : readingIn b ≡ 1 → refusal (ruleOf b) (viewIn b l) (ask thePieces) ≡ 14
+  unfolding refusal faults questionFaults viewIn firstFault fault readingNumber
+  pieces-inverted h = rw (eq-eqb (readingIn b) 1 h)
 
   pub find-empty : (w : Word) → w ≡ [] → refusal (ruleOf b) (viewIn b l) (ask (find w)) ≡ 8
   unfolding refusal faults questionFaults viewIn firstFault fault isEmpty

@@ -17,7 +17,8 @@ use Rattle.palindromes.specs.MinimalUnique.{minimalUnique}
 use Rattle.palindromes.specs.Node.{spelt, lengthOf, linkOf, innerOf, spellingOf}
 use Rattle.palindromes.specs.Bed.{listing}
 use Rattle.palindromes.specs.Genbank.{genbank}
-use Rattle.palindromes.specs.Refusal.{Question, theLength, theCount, theLongest, theLongestLength, theOccurrences, page, theMinimalUnique}
+use Rattle.palindromes.specs.Factorization.{palindromicLength, factorEnds, endBytes}
+use Rattle.palindromes.specs.Refusal.{Question, theLength, theCount, theLongest, theLongestLength, theOccurrences, page, theMinimalUnique, thePieces}
 use Rattle.palindromes.specs.Refusal.{theLongestAt, theLetter, theRow, theFrequency, spell, find, list, Call, opening, add, remove, turn, ask, View}
 use Rattle.palindromes.specs.Refusal.{scratchSize, refusal}
 use Rattle.palindromes.specs.SearchSteps.{reportedSteps}
@@ -52,6 +53,7 @@ viewIn b l =
       out = length (l .out);
       good = true;
       capacity = capacityIn b;
+      reading = readingIn b;
       letters = lettersIn b;
       row = λ r. cond (usedIn b r) (some (nodeIn b r)) none;
     }
@@ -77,6 +79,7 @@ answerTo theLongestLength b = answer false 0 (longestLength (ruleOf b) (lettersI
 answerTo theOccurrences b = wideAnswer (occurrencesByRow (ruleOf b) (lettersIn b)) (occurrencesByEnd (ruleOf b) (lettersIn b))
 answerTo page b = answer false 0 (length (genbank (lettersIn b))) 0
 answerTo theMinimalUnique b = answer false 0 (length (minimalUnique (ruleOf b) (lettersIn b))) 0
+answerTo thePieces b = answer false 0 (palindromicLength (ruleOf b) (lettersIn b)) 0
 answerTo (theLongestAt e) b = answer (standsOnce (longestBefore e b) (lettersIn b)) (rowOf b (spelt (longestBefore e b))) 0 0
 answerTo (theLetter i) b = answer false 0 (getD (lettersIn b) i 0) 0
 answerTo (theRow r) b = answer false (rowOf b (linkOf (ruleOf b) (nodeIn b r))) (twosComplement (lengthOf (nodeIn b r))) (rowOf b (innerOf (nodeIn b r)))
@@ -94,6 +97,7 @@ lentAfter theLongestLength b l = l
 lentAfter theOccurrences b l = l
 lentAfter page b l = record { scratch = l .scratch; out = written (genbank (lettersIn b)) (l .out) }
 lentAfter theMinimalUnique b l = record { scratch = l .scratch; out = written (intervalBytes (minimalUnique (ruleOf b) (lettersIn b))) (l .out) }
+lentAfter thePieces b l = record { scratch = l .scratch; out = written (endBytes (factorEnds (ruleOf b) (lettersIn b))) (l .out) }
 lentAfter (theLongestAt e) b l = l
 lentAfter (theLetter i) b l = l
 lentAfter (theRow r) b l = l

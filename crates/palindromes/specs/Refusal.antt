@@ -4,20 +4,21 @@ use Prim.Native.Nat.{ℕ, zero, suc, _+_, _*_, _/_}
 use mathlib.Core.Bool.{Bool, true, false, _&&_, _||_, not}
 use mathlib.Core.List.{List, [], _∷_}
 use mathlib.Core.Option.{Option, none, some}
-use lib.Dec.{leb, ltb}
+use lib.Dec.{leb, ltb, eqb}
 use lib.ListN.{length}
 use Rattle.palindromes.specs.Word.{Word, isLetter, allLetters, isEmpty}
-use Rattle.palindromes.specs.Reading.{Reading}
+use Rattle.palindromes.specs.Reading.{Reading, asInverted, readingNumber}
 use Rattle.palindromes.specs.End.{End}
 use Rattle.palindromes.specs.Interval.{intervalBytes}
 use Rattle.palindromes.specs.MinimalUnique.{minimalUnique}
 use Rattle.palindromes.specs.Node.{Node, spellingOf}
 use Rattle.palindromes.specs.Bed.{isIdentifier, listing}
 use Rattle.palindromes.specs.Genbank.{genbank}
+use Rattle.palindromes.specs.Factorization.{factorEnds, endBytes}
 
 -- a question with its arguments: it changes no byte of the store
 pub data Question : Type 0 where
-  theLength theCount theLongest theLongestLength theOccurrences page theMinimalUnique : Question
+  theLength theCount theLongest theLongestLength theOccurrences page theMinimalUnique thePieces : Question
   theLongestAt : End → Question
   theLetter : (place : ℕ) → Question
   theRow : (row : ℕ) → Question
@@ -42,6 +43,7 @@ pub record View : Type 0 where
   pub out : ℕ
   pub good : Bool
   pub capacity : ℕ
+  pub reading : ℕ
   pub letters : Word
   pub row : ℕ → Option Node
 
@@ -83,6 +85,8 @@ questionFaults σ v theLongestLength = []
 questionFaults σ v theOccurrences = []
 questionFaults σ v page = fault 9 (ltb (v .out) (length (genbank (v .letters)))) ∷ []
 questionFaults σ v theMinimalUnique = fault 9 (ltb (v .out) (length (intervalBytes (minimalUnique σ (v .letters))))) ∷ []
+questionFaults σ v thePieces =
+    fault 14 (eqb (v .reading) (readingNumber asInverted)) ∷ fault 9 (ltb (v .out) (length (endBytes (factorEnds σ (v .letters))))) ∷ []
 questionFaults σ v (theLongestAt e) = fault 6 (isEmpty (v .letters)) ∷ []
 questionFaults σ v (theLetter i) = fault 7 (leb (length (v .letters)) i) ∷ []
 questionFaults σ v (theRow r) = fault 7 (isFree (v .row r)) ∷ []

@@ -12,6 +12,7 @@ pub mod Frequencies
 pub mod Writes
 pub mod Pages
 pub mod MinimalUnique
+pub mod Pieces
 pub mod Possible
 pub mod Example
 pub mod ExampleInverted
@@ -20,3 +21,4 @@ pub mod ExampleAppending
 pub mod ExampleFrequencies
 pub mod ExamplePages
 pub mod ExampleMinimalUnique
+pub mod ExamplePieces

@@ -1,22 +1,39 @@
--- What a question that writes to its output answers and leaves on a good store, by the length of the output: `writes`; and that what it answers and
--- writes decides all of that: `same-written`. Rests on what a promise tells of an outcome (`told`) and on the one law for such questions (`Writing`
--- of outcome).
-use Prim.Native.Nat.{ℕ, _≤_, _<_}
+-- What a question that writes to its output answers and leaves on a good store, by the length of the output: `writes`; one that is refused whatever
+-- its buffers: `refuses`; and that what a question answers and writes decides all of that: `same-written`. Rests on what a promise tells of an
+-- outcome (`told`) and on the one law for such questions (`Writing` of outcome).
+use Prim.Native.Nat.{ℕ, suc, _≤_, _<_}
 use native.Mathlib.Decide.{decLt}
 use native.Mathlib.Omega.{arith}
 use mathlib.Core.Path.{_≡_, refl, sym, ap, _∙_}
 use lib.ListN.{length, take}
 use Rattle.palindromes.specs.Word.{Word}
-use Rattle.palindromes.specs.Refusal.{Question, ask}
+use Rattle.palindromes.specs.Refusal.{Question, ask, refusal}
 use Rattle.decimal.proofs.Stores.{stored-front}
-use Rattle.store.specs.Good.{Good}
-use Rattle.outcome.specs.Outcome.{Lent, Outcome, outcome, written, refusedOutcome}
+use Rattle.store.specs.Good.{ruleOf, Good}
+use Rattle.outcome.specs.Outcome.{Lent, Outcome, viewIn, outcome, written, refusedOutcome}
 use Rattle.outcome.specs.Promise.{lending, Promise}
+use Rattle.outcome.proofs.Refusals.{refused-out}
 use Rattle.outcome.proofs.Told.{told}
 use Rattle.outcome.proofs.Questions.{Writing, with-room, without-room}
 use Rattle.traces.specs.Claims.{SameAnswer}
-use Rattle.traces.specs.Writes.{Written, Short, Writes}
+use Rattle.traces.specs.Writes.{Written, Refused, Writes, Refuses}
 use Rattle.traces.proofs.Theorem.{same-answer}
+
+-- a question that comes to a refusal
+refused : {q : Question} {b : Word} → Good b → (n : ℕ) (l : Lent) (a : ℕ) (b′ : Word) (l′ : Lent) → Promise (ask q) b l a b′ l′
+    → outcome (ask q) b l ≡ refusedOutcome n b l → Refused n b l a b′ l′
+unfolding refusedOutcome
+refused g n l a b′ l′ p o =
+    let t = told g p in
+    record {
+      told = t .reply ∙ ap (λ (x : Outcome). x .reply) o;
+      store = t .store ∙ ap (λ (x : Outcome). x .store) o;
+      bytes = t .lent ∙ ap (λ (x : Outcome). x .lent) o;
+    }
+
+-- whatever buffers come with it
+pub refuses : {q : Question} {b : Word} → Good b → (n : ℕ) → ((l : Lent) → refusal (ruleOf b) (viewIn b l) (ask q) ≡ suc n) → Refuses q (suc n) b
+refuses {q} {b} g n h l a b′ l′ p = refused g (suc n) l a b′ l′ p (refused-out (ask q) b l n (h l))
 
 module _ {q : Question} {n : ℕ} {w b : Word} (g : Good b) (f : Writing q n w b) where
   put : (l : Lent) (a : ℕ) (b′ : Word) (l′ : Lent) → Promise (ask q) b l a b′ l′ → length w ≤ length (l .out) → Written n w b l a b′ l′
@@ -32,19 +49,8 @@ module _ {q : Question} {n : ℕ} {w b : Word} (g : Good b) (f : Writing q n w b
         front = ap (λ (x : Lent). take (length w) (x .out)) bytes ∙ stored-front (l .out) w h;
       }
 
-  refused : (l : Lent) (a : ℕ) (b′ : Word) (l′ : Lent) → Promise (ask q) b l a b′ l′ → length (l .out) < length w → Short b l a b′ l′
-  unfolding refusedOutcome
-  refused l a b′ l′ p h =
-      let t = told g p in
-      let o = without-room f l h in
-      record {
-        told = t .reply ∙ ap (λ (x : Outcome). x .reply) o;
-        store = t .store ∙ ap (λ (x : Outcome). x .store) o;
-        bytes = t .lent ∙ ap (λ (x : Outcome). x .lent) o;
-      }
-
   pub writes : Writes q n w b
-  writes = record { written = put; short = refused }
+  writes = record { written = put; short = λ l a b′ l′ p h. refused g 9 l a b′ l′ p (without-room f l h) }
 
 -- ---- two stores
 

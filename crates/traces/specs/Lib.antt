@@ -5,3 +5,4 @@ pub mod Frequencies
 pub mod Writes
 pub mod Pages
 pub mod MinimalUnique
+pub mod Pieces

@@ -17,14 +17,18 @@ pub record Written (n : ℕ) (w b : Word) (l : Lent) (a : ℕ) (b′ : Word) (l�
   pub bytes : l′ ≡ lending (l .scratch) (written w (l .out))
   pub front : take (length w) (l′ .out) ≡ w
 
--- there is not: 9, and every byte stays
-pub record Short (b : Word) (l : Lent) (a : ℕ) (b′ : Word) (l′ : Lent) : Type 0 where
-  pub told : unpacked a ≡ refusedWith 9
+-- refused with a number, and every byte stays
+pub record Refused (n : ℕ) (b : Word) (l : Lent) (a : ℕ) (b′ : Word) (l′ : Lent) : Type 0 where
+  pub told : unpacked a ≡ refusedWith n
   pub store : b′ ≡ b
   pub bytes : l′ ≡ l
 
--- one or the other, by the length of the output
+-- one or the other, by the length of the output: 9 where there is no room
 pub record Writes (q : Question) (n : ℕ) (w b : Word) : Type 0 where
   pub written : (l : Lent) (a : ℕ) (b′ : Word) (l′ : Lent) → Promise (ask q) b l a b′ l′ → length w ≤ length (l .out)
       → Written n w b l a b′ l′
-  pub short : (l : Lent) (a : ℕ) (b′ : Word) (l′ : Lent) → Promise (ask q) b l a b′ l′ → length (l .out) < length w → Short b l a b′ l′
+  pub short : (l : Lent) (a : ℕ) (b′ : Word) (l′ : Lent) → Promise (ask q) b l a b′ l′ → length (l .out) < length w → Refused 9 b l a b′ l′
+
+-- refused whatever buffers come with it
+abbrev pub Refuses : Question → ℕ → Word → Type 0
+Refuses q n b = (l : Lent) (a : ℕ) (b′ : Word) (l′ : Lent) → Promise (ask q) b l a b′ l′ → Refused n b l a b′ l′
