@@ -1,5 +1,5 @@
-/* A sitting in C: two teams build ACGAAG from both ends, ask for its mirror repeats and which of them are minimal unique, and take
- * a letter away again. Then a record is read from a FASTA text and printed as in GenBank. At last a read with an uncertain base. */
+/* A sitting in C: two teams build ACGAAG from both ends, ask for its mirror repeats and which of them are minimal unique, cut it into
+ * the fewest repeats, and take a letter away again. Then a record is read from a FASTA text and printed as in GenBank. At last a read with an uncertain base. */
 #include "mirror.h"
 #include <stdio.h>
 #include <string.h>
@@ -51,6 +51,9 @@ int main(void)
 
     n = mirror_first(must(mirror_minimal_unique(store, sizeof store, text, sizeof text)));
     for (unsigned i = 0; i < n; i++) printf("minimal unique: %u to %u\n", mirror_start(text, i), mirror_end(text, i));
+
+    n = mirror_first(must(mirror_pieces(store, sizeof store, text, sizeof text)));
+    for (unsigned i = 0; i < n; i++) printf("piece %u of %u ends at %u\n", i + 1, n, mirror_piece_end(text, i));
 
     answer = must(mirror_remove_right(store, sizeof store));
     printf("removed %c, row %u %s\n", mirror_first(answer), mirror_row_of(answer), mirror_flag(answer) ? "went" : "stays");

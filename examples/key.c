@@ -192,12 +192,17 @@ static void say_list(const struct line *l, uint64_t answer)
     }
 }
 
-/* The page is lent just the bytes that it has or, so that a refusal can be shown, as many as the line says. */
+/* What is written is lent just the bytes that it takes or, so that a refusal can be shown, as many as the line says. */
+static size_t room(const struct line *l, size_t bytes)
+{
+    if (!*l->words[1]) return bytes;
+    return l->number < sizeof text ? (size_t)l->number : sizeof text;
+}
+
 static uint64_t make_genbank(const struct line *l)
 {
-    size_t letters = mirror_first(mirror_length(store, sizeof store)), room = MIRROR_GENBANK_SIZE(letters);
-    if (*l->words[1]) room = l->number < sizeof text ? (size_t)l->number : sizeof text;
-    uint64_t answer = mirror_genbank(store, sizeof store, text, room);
+    size_t letters = mirror_first(mirror_length(store, sizeof store));
+    uint64_t answer = mirror_genbank(store, sizeof store, text, room(l, MIRROR_GENBANK_SIZE(letters)));
     written = mirror_first(answer);
     return answer;
 }
@@ -212,12 +217,11 @@ static void say_genbank(const struct line *l, uint64_t answer)
     }
 }
 
-/* They are lent just the bytes that they take, which a first call with enough tells, or as many as the line says. */
+/* How many there are, and so the bytes that they take, is told by a first call with enough. */
 static uint64_t make_minimal(const struct line *l)
 {
-    size_t room = MIRROR_MINIMAL_UNIQUE_SIZE(mirror_first(mirror_minimal_unique(store, sizeof store, text, sizeof text)));
-    if (*l->words[1]) room = l->number < sizeof text ? (size_t)l->number : sizeof text;
-    return mirror_minimal_unique(store, sizeof store, text, room);
+    unsigned n = mirror_first(mirror_minimal_unique(store, sizeof store, text, sizeof text));
+    return mirror_minimal_unique(store, sizeof store, text, room(l, MIRROR_MINIMAL_UNIQUE_SIZE(n)));
 }
 
 /* Where each of them stands, with its end one past its last letter. */
@@ -226,6 +230,22 @@ static void say_minimal(const struct line *l, uint64_t answer)
     (void)l;
     if (mirror_first(answer) == 0) printf("none");
     for (unsigned i = 0; i < mirror_first(answer); i++) printf("%s%u to %u", i ? ", " : "", mirror_start(text, i), mirror_end(text, i));
+}
+
+/* The same for the pieces; where the record is inverted they are refused, whatever is lent. */
+static uint64_t make_pieces(const struct line *l)
+{
+    unsigned n = mirror_first(mirror_pieces(store, sizeof store, text, sizeof text));
+    return mirror_pieces(store, sizeof store, text, room(l, MIRROR_PIECES_SIZE(n)));
+}
+
+/* How many there are, and where each ends, one past its last letter. */
+static void say_pieces(const struct line *l, uint64_t answer)
+{
+    unsigned n = mirror_first(answer);
+    (void)l;
+    printf("%u piece%s", n, n == 1 ? "" : "s");
+    for (unsigned i = 0; i < n; i++) printf("%s%u", i ? ", " : ", ending at ", mirror_piece_end(text, i));
 }
 
 /* The codes are a word of the line; the record has no part in it. */
@@ -259,6 +279,7 @@ static const struct form forms[] = {
     {"list", MAYBE_TEXT, "list IDENTIFIER", make_list, say_list},
     {"genbank", MAYBE_NUMBER, "genbank, genbank BYTES", make_genbank, say_genbank},
     {"minimal", MAYBE_NUMBER, "minimal, minimal BYTES", make_minimal, say_minimal},
+    {"pieces", MAYBE_NUMBER, "pieces, pieces BYTES", make_pieces, say_pieces},
     {"uncertain", MAYBE_TEXT, "uncertain CODES", make_uncertain, say_uncertain},
     {"rows", NOTHING, "rows", NULL, NULL},
 };

@@ -74,6 +74,21 @@ size_t brute_minimal_unique(const unsigned char *rule, const unsigned char *s, s
     return count;
 }
 
+size_t brute_pieces(const unsigned char *s, size_t n, size_t *ends)
+{
+    static size_t fewest[BRUTE_MOST + 1], starts[BRUTE_MOST + 1]; /* of the letters up to an end; where the last piece of these begins */
+    for (size_t end = 1; end <= n; end++) {
+        fewest[end] = n + 1; /* no cutting yet */
+        for (size_t start = 0; start < end; start++) {
+            if (fewest[start] + 1 >= fewest[end] || !brute_palindrome(brute_rule(PLAIN), s + start, end - start)) continue;
+            fewest[end] = fewest[start] + 1;
+            starts[end] = start;
+        }
+    }
+    for (size_t end = n, i = fewest[n]; end > 0; end = starts[end]) ends[--i] = end;
+    return fewest[n];
+}
+
 stretch brute_longest(const unsigned char *rule, const unsigned char *s, size_t n)
 {
     stretch best = {0, 0};
@@ -130,6 +145,27 @@ size_t brute_by_ends(const unsigned char *rule, const unsigned char *s, size_t n
 {
     size_t sum = 0;
     for (size_t end = 1; end <= n; end++) sum += brute_suffixes(rule, s, end);
+    return sum;
+}
+
+/* the lengths of the palindromes that end s fall to 0; how often the difference of two neighbours is not the one before it */
+static size_t series_at_the_end(const unsigned char *rule, const unsigned char *s, size_t n)
+{
+    size_t found = 0, longer = 0, difference = 0; /* no palindrome yet, so no difference */
+    for (size_t start = 0; start <= n; start++) {
+        if (start < n && !brute_palindrome(rule, s + start, n - start)) continue;
+        size_t falls = longer ? longer - (n - start) : 0;
+        found += falls != difference;
+        difference = falls;
+        longer = n - start;
+    }
+    return found;
+}
+
+size_t brute_series(const unsigned char *rule, const unsigned char *s, size_t n)
+{
+    size_t sum = 0;
+    for (size_t end = 1; end <= n; end++) sum += series_at_the_end(rule, s, end);
     return sum;
 }
 

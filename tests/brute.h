@@ -6,6 +6,8 @@
 
 typedef struct { size_t start, end; } stretch;
 
+enum { BRUTE_MOST = 1024 };
+
 /* How a record is read, by the numbers of the store's reading cell (docs/LAYOUT.md). */
 enum { PLAIN, INVERTED, READINGS };
 
@@ -26,6 +28,10 @@ size_t brute_list(const unsigned char *rule, const unsigned char *s, size_t n, s
 /* Every palindrome of s that stands once and whose inner word, without the first and the last letter, is empty or stands at least
  * twice, ordered by start and then by end. Returns how many; out has room for n. */
 size_t brute_minimal_unique(const unsigned char *rule, const unsigned char *s, size_t n, stretch *out);
+/* The fewest palindromes, each its own reversal, into which s of up to BRUTE_MOST letters can be cut, by the plain recurrence over its
+ * left parts; and where each ends, from the left: of all cuttings into so few that whose last piece is the longest, then the one before
+ * it, and so on. Returns how many; ends has room for n. */
+size_t brute_pieces(const unsigned char *s, size_t n, size_t *ends);
 /* The longest palindrome and its leftmost place; 0 at 0 where there is none. */
 stretch brute_longest(const unsigned char *rule, const unsigned char *s, size_t n);
 /* The length of the longest palindrome at the right and at the left end. */
@@ -38,6 +44,9 @@ size_t brute_prefixes(const unsigned char *rule, const unsigned char *s, size_t 
  * end there. */
 size_t brute_by_words(const unsigned char *rule, const unsigned char *s, size_t n);
 size_t brute_by_ends(const unsigned char *rule, const unsigned char *s, size_t n);
+/* At each right end the palindromes that end there, longest first, fall into series: in one, each is as much shorter than the one before
+ * it as that is than its own, and the last of all is held against the empty word. How many series all right ends have together. */
+size_t brute_series(const unsigned char *rule, const unsigned char *s, size_t n);
 /* How many are passed before the first that has the partner of c just to its left: the palindromes that end s, longest first,
  * then the empty word, then the imaginary one, which always serves. */
 size_t brute_steps(const unsigned char *rule, const unsigned char *s, size_t n, unsigned char c);

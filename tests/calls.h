@@ -5,7 +5,7 @@
 
 /* In the order of library.h, so that a kind is the call's number there: the openings, of which OPEN + reading gives that
  * reading, then, from ADD_LEFT on, what tests its store: first what changes it, the turns last, of which TURN_PLAIN +
- * reading gives that reading, and, from LENGTH on, the questions. */
+ * reading gives that reading, and, from LENGTH on, the questions, of which those from GENBANK on take a store and an output alone. */
 #define CALL_KIND(kind, name) kind,
 typedef enum { EACH_OPENING(CALL_KIND) EACH_STORE_CALL(CALL_KIND) CALL_KINDS } call_kind;
 /* The numbers of the calls that take no store, which follow. */
@@ -16,7 +16,7 @@ typedef struct {
     uint64_t number;                    /* the capacity, letter, place or row */
     const unsigned char *text;          /* find's piece, list's identifier */
     size_t text_length;
-    size_t scratch_length, out_length;  /* the buffers that list, spell, genbank and minimal_unique are lent */
+    size_t scratch_length, out_length;  /* the buffers that list, spell and the calls from genbank on are lent */
 } call;
 
 /* The buffers that a call is lent, of the lengths that it says. */
@@ -26,4 +26,7 @@ typedef struct {
 
 /* Makes the call through a library's table. */
 uint64_t call_make(const library *of, uint8_t *store, size_t length, const call *c, const buffers *lent);
+/* Whether the call writes to an output, and how many bytes it wrote there by its answer, which is no refusal. */
+int call_writes(call_kind kind);
+size_t call_wrote(call_kind kind, uint64_t answer);
 #endif

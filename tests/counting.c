@@ -53,15 +53,9 @@ static void ask_all(void)
     if (by_ends > most) most = by_ends;
 }
 
-/* buffers that end at a guard page and that begin after one, in turn */
-static void other_guards(void)
-{
-    guard_at(records % 2 ? GUARD_BEFORE : GUARD_AFTER);
-}
-
 static void one_word(unsigned wanted, const unsigned char *word, size_t n, int way)
 {
-    other_guards();
+    guard_in_turn();
     make_record(wanted, word, n, way);
     ask_all();
 }
@@ -83,7 +77,7 @@ static void short_words(unsigned wanted)
 static void moving_record(unsigned wanted)
 {
     unsigned alphabet = 1 + random_below(4), steps = 20 + random_below(60), left = 0;
-    other_guards();
+    guard_in_turn();
     followed_open(wanted, 1 + random_below(random_below(3) ? 12 : 40));
     for (unsigned i = 0; i < steps; i++) {
         unsigned char letter = (unsigned char)"ATCG"[random_below(alphabet)];

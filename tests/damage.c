@@ -58,22 +58,31 @@ static void one_call(const call *c)
     oracle(store, damaged_length, c);
 }
 
+/* the bytes that the page, the minimal unique repeats or the pieces of the record take before the damage; those of an inverted record
+ * as if it were cut */
+static size_t bytes_of(call_kind kind)
+{
+    static stretch list[LAYOUT_MOST];
+    static size_t ends[LAYOUT_MOST];
+    if (kind == GENBANK) return MIRROR_GENBANK_SIZE(shows.size);
+    if (kind == PIECES) return PIECE_BYTES * brute_pieces(shows.letters, shows.size, ends);
+    return STRETCH_BYTES * brute_minimal_unique(shows.rule, shows.letters, shows.size, list);
+}
+
 /* every call, with arguments that a good store would take and with arguments that it would refuse */
 static void every_call(void)
 {
     static const unsigned char piece[] = "ATAT", bad_piece[] = "AN", name[] = "rec_1", bad_name[] = "rec-1";
-    static stretch list[LAYOUT_MOST];
     unsigned row = random_below((unsigned)shows.capacity + 3), letter = (unsigned)"ACGT"[random_below(4)];
-    size_t out = 64 * 1024 - random_below(2), scratch = layout_scratch(shows.size), page = MIRROR_GENBANK_SIZE(shows.size);
-    size_t unique = STRETCH_BYTES * brute_minimal_unique(shows.rule, shows.letters, shows.size, list); /* before the damage */
+    size_t out = 64 * 1024 - random_below(2), scratch = layout_scratch(shows.size);
     for (call_kind kind = ADD_LEFT; kind < CALL_KINDS; kind++) {
         int of_row = kind == ROW || kind == FREQUENCY || kind == SPELL;
+        size_t bytes = kind >= GENBANK ? bytes_of(kind) : 0;
         call c = {kind, kind == LETTER ? random_below((unsigned)shows.size + 1) : of_row ? row : letter, NULL, 0, 0, 0};
         if (kind == FIND) c.text = piece, c.text_length = 1 + random_below(4);
         if (kind == SPELL) c.out_length = shows.size + random_below(3);
         if (kind == LIST) c.text = name, c.text_length = 5, c.scratch_length = scratch + random_below(3), c.out_length = out;
-        if (kind == GENBANK) c.out_length = page + random_below(3);
-        if (kind == MINIMAL_UNIQUE) c.out_length = unique + random_below(6);
+        if (kind >= GENBANK) c.out_length = bytes + random_below(6);
         one_call(&c);
         if (kind >= REMOVE_LEFT && kind < LETTER) continue; /* no argument: it would be the same call again */
         c.number = kind <= ADD_RIGHT ? letter + 256 : 65536 + row;
@@ -81,8 +90,7 @@ static void every_call(void)
         if (kind == SPELL) c.number = row, c.out_length = 0;
         if (kind == LIST) c.text = random_below(4) ? name : bad_name, c.scratch_length = scratch - (scratch > 0);
         if (kind == LIST) c.out_length = random_below(2) ? MIRROR_LIST_SIZE(shows.size) : random_below(20);
-        if (kind == GENBANK) c.out_length = random_below(2) ? page - 1 : random_below((unsigned)page);
-        if (kind == MINIMAL_UNIQUE) c.out_length = unique > 0 && random_below(2) ? unique - 1 : random_below((unsigned)unique + 1);
+        if (kind >= GENBANK) c.out_length = bytes > 0 && random_below(2) ? bytes - 1 : random_below((unsigned)bytes + 1);
         one_call(&c);
     }
 }

@@ -40,6 +40,7 @@ static void no_store(uint8_t *p)
     must("list", mirror_list(p, 0, p, 0, p, 0, p, 0), MIRROR_DAMAGED);
     must("genbank", mirror_genbank(p, 0, p, 0), MIRROR_DAMAGED);
     must("minimal_unique", mirror_minimal_unique(p, 0, p, 0), MIRROR_DAMAGED);
+    must("pieces", mirror_pieces(p, 0, p, 0), MIRROR_DAMAGED);
 }
 
 /* every other buffer empty at p, with an empty record and with one of a letter */
@@ -52,23 +53,28 @@ static void no_buffer(uint8_t *p)
     must("an empty list", mirror_list(store, sizeof store, (const uint8_t *)"e1", 2, p, 0, p, 0), 0);
     must("print an empty record", mirror_genbank(store, sizeof store, p, 0), MIRROR_NO_ROOM);
     must("no minimal unique repeat of nothing", mirror_minimal_unique(store, sizeof store, p, 0), 0);
+    must("no piece of nothing", mirror_pieces(store, sizeof store, p, 0), 0);
     mirror_add_right(store, sizeof store, 'A');
     must("print a letter", mirror_genbank(store, sizeof store, p, 0), MIRROR_NO_ROOM);
     must("a letter that stands once", mirror_minimal_unique(store, sizeof store, p, 0), MIRROR_NO_ROOM);
+    must("a letter as a piece", mirror_pieces(store, sizeof store, p, 0), MIRROR_NO_ROOM);
     must("spell a letter", mirror_spell(store, sizeof store, 2, p, 0), MIRROR_NO_ROOM);
     must("list a letter", mirror_list(store, sizeof store, (const uint8_t *)"e1", 2, p, 0, p, 0), MIRROR_NO_ROOM);
 }
 
-/* an inverted record of a letter has no repeat: it is listed with scratch and no output, and none is minimal unique */
+/* an inverted record of a letter has no repeat: it is listed with scratch and no output, and none is minimal unique; it is not cut, and
+ * neither is an empty one */
 static void no_repeat(uint8_t *p)
 {
     uint8_t scratch[1];
     mirror_open_inverted(store, sizeof store, 4);
+    must("pieces of nothing inverted", mirror_pieces(store, sizeof store, p, 0), MIRROR_INVERTED);
     must("an empty list", mirror_list(store, sizeof store, (const uint8_t *)"e1", 2, p, 0, p, 0), 0);
     mirror_add_right(store, sizeof store, 'A');
     must("no scratch", mirror_list(store, sizeof store, (const uint8_t *)"e1", 2, p, 0, p, 0), MIRROR_NO_ROOM);
     must("no output", mirror_list(store, sizeof store, (const uint8_t *)"e1", 2, scratch, sizeof scratch, p, 0), 0);
     must("no minimal unique repeat", mirror_minimal_unique(store, sizeof store, p, 0), 0);
+    must("pieces of an inverted letter", mirror_pieces(store, sizeof store, p, 0), MIRROR_INVERTED);
 }
 
 /* texts and letters at p */

@@ -52,7 +52,7 @@ static void ask(void)
     unsigned what = next();
     call c = {(call_kind)(LENGTH + what % (CALL_KINDS - LENGTH)), 0, text, 0, 0, 0};
     if (c.kind >= LETTER && c.kind <= SPELL) c.number = what < 128 ? next() : (uint64_t)next() << (what % 57); /* a place or a row */
-    if (c.kind == SPELL || c.kind == GENBANK || c.kind == MINIMAL_UNIQUE) c.out_length = room();
+    if (c.kind != LIST && call_writes(c.kind)) c.out_length = room();
     if (c.kind == FIND || c.kind == LIST) {
         c.text_length = next() % TEXT;
         for (size_t i = 0; i < c.text_length; i++) text[i] = (unsigned char)next();

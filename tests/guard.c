@@ -15,6 +15,12 @@ void guard_at(guard_place place)
     where = place;
 }
 
+void guard_in_turn(void)
+{
+    static unsigned long turns;
+    guard_at(turns++ % 2 ? GUARD_BEFORE : GUARD_AFTER);
+}
+
 /* ROOM bytes with a guard page on either side */
 static uint8_t *fenced(void)
 {

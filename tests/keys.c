@@ -3,9 +3,9 @@
  * A key is compared as it stands in the table, and no other program is asked. Beside the table: small letters are refused,
  * the keys of inverted records that 02 (vi) and source 004 have, records that are turned, 02 (vii), how many repeats of each
  * length a store carries, 02 (ii), what additions report of their search, 02 (xiii), where a piece breaks, 02 (x), how much
- * scratch the list takes, 02 (ix), how often repeats stand, 02 (iii), the minimal unique repeats, 02 (viii), the two lengths of texts
- * of uncertain bases, 02 (xii), which uncertain_keys.c has, and the record printed as in GenBank, 02 (iv), each page written out here
- * byte by byte. Keys that ask for no repeat are run with either opening. */
+ * scratch the list takes, 02 (ix), how often repeats stand, 02 (iii), the minimal unique repeats, 02 (viii), the fewest pieces,
+ * 02 (xiv), the two lengths of texts of uncertain bases, 02 (xii), which uncertain_keys.c has, and the record printed as in GenBank,
+ * 02 (iv), each page written out here byte by byte. Keys that ask for no repeat are run with either opening. */
 #include "mirror.h"
 #include "uncertain_keys.h"
 #include <ctype.h>
@@ -87,36 +87,59 @@ static void goes(int left, char letter, const char *repeat)
     if (repeat) breaks(repeat, 0);
 }
 
-/* the page, as it stands in the key: into just its bytes and into more, and a byte fewer is refused */
-static void printed(const char *page)
+/* a call that writes at the front of a lent buffer */
+typedef uint64_t writing(const uint8_t *, size_t, uint8_t *, size_t);
+
+/* what such a call answers and writes, as the key has it: into just these bytes and into more; a byte fewer, if there are any, is refused */
+static void written(writing *call, uint64_t answer, const void *bytes, size_t n)
 {
     uint8_t out[128];
-    size_t n = strlen(page);
-    for (size_t room = n - 1; room <= n + 8; room++) {
+    for (size_t room = n - (n > 0); room <= n + 8; room++) {
         memset(out, '?', sizeof out);
-        key("the page's length", room < n ? 9 : (uint64_t)n << 32, mirror_genbank(store, length, out, room));
-        key("the page", 0, room >= n && memcmp(out, page, n) != 0);
-        for (size_t i = room < n ? 0 : n; i < n + 9; i++) key("a byte that is not of the page", '?', out[i]);
+        key("the answer", room < n ? 9 : answer, call(store, length, out, room));
+        key("the bytes", 0, room >= n && memcmp(out, bytes, n) != 0);
+        for (size_t i = room < n ? 0 : n; i < n + 9; i++) key("a byte that is not of them", '?', out[i]);
     }
 }
 
-/* where the minimal unique repeats stand, as in the key, start-end with a blank between two: two bytes for each number, low byte first,
- * into just these bytes and into more; a byte fewer is refused */
-static void minimal(const char *stretches)
+static void printed(const char *page)
 {
-    uint8_t wanted[32], out[sizeof wanted + 9];
+    written(mirror_genbank, (uint64_t)strlen(page) << 32, page, strlen(page));
+}
+
+/* numbers as in the key, with one byte between two, each in two bytes, low byte first, and so many to each that is counted */
+static void numbers(writing *call, const char *text, size_t each)
+{
+    uint8_t wanted[64];
     size_t n = 0;
-    for (char *at = (char *)stretches; *at; at += *at != 0) {
+    for (char *at = (char *)text; *at; at += *at != 0) {
         unsigned long number = strtoul(at, &at, 10);
         wanted[n++] = (uint8_t)(number % 256);
         wanted[n++] = (uint8_t)(number / 256);
     }
-    for (size_t room = n - (n > 0); room <= n + 8; room++) {
-        memset(out, '?', sizeof out);
-        key("how many are minimal unique", room < n ? 9 : (uint64_t)(n / 4) << 32, mirror_minimal_unique(store, length, out, room));
-        key(stretches, 0, room >= n && memcmp(out, wanted, n) != 0);
-        for (size_t i = room < n ? 0 : n; i < n + 9; i++) key("a byte that is not of them", '?', out[i]);
-    }
+    written(call, (uint64_t)(n / 2 / each) << 32, wanted, n);
+}
+
+/* where the minimal unique repeats stand: start-end with a blank between two */
+static void minimal(const char *stretches)
+{
+    numbers(mirror_minimal_unique, stretches, 2);
+}
+
+/* where the fewest pieces end, with a blank between two */
+static void pieces(const char *ends)
+{
+    numbers(mirror_pieces, ends, 1);
+}
+
+/* an inverted record is not cut, with no byte lent and with as many as are always enough */
+static void not_cut(void)
+{
+    uint8_t out[2048];
+    written(mirror_pieces, 14, "", 0);
+    memset(out, '?', sizeof out);
+    key("pieces of an inverted record", 14, mirror_pieces(store, length, out, sizeof out));
+    for (size_t i = 0; i < sizeof out; i++) key("a byte of an inverted record's", '?', out[i]);
 }
 
 /* ---- without a star */
@@ -132,6 +155,8 @@ static void empty_at_every_capacity(opening *open)
         key("frequency of row 2", 7, mirror_frequency(store, length, 2));
         printed("ORIGIN\n//\n");
         minimal("");
+        if (open == mirror_open) pieces("");
+        else key("pieces of nothing inverted", 14, mirror_pieces(store, length, NULL, 0));
     }
 }
 
@@ -870,20 +895,135 @@ static void room_for_minimal(void)
     for (size_t i = 0; i < sizeof rooms / sizeof rooms[0]; i++) key("room enough", rooms[i].bytes, MIRROR_MINIMAL_UNIQUE_SIZE(rooms[i].letters));
 }
 
-/* a store that is not good is refused before the room is looked at, and no byte is written */
-static void minimal_of_damaged_stores(opening *open)
+/* ---- the fewest pieces, 02 (xiv) */
+
+/* the word of 02; words that are one piece, and words of single letters; of two cuttings that with the longest piece last: A CACAC and not
+ * ACACA C, A CAAC and not ACA A C, ACA CC and not A CAC C, which has three */
+static void pieces_of_short_records(uint64_t capacity, int from_left)
+{
+    static const struct { const char *letters, *ends; } keys[] = {
+        {"", ""}, {"A", "1"}, {"AA", "2"}, {"AAAAAA", "6"}, {"ACA", "3"}, {"ACCA", "4"}, {"AACGAA", "2 3 4 6"}, {"AC", "1 2"}, {"ACGT", "1 2 3 4"},
+        {"ACGACG", "1 2 3 4 5 6"}, {"ACAC", "1 4"}, {"ACACAC", "1 6"}, {"AAAC", "3 4"}, {"CAAA", "1 4"}, {"ACAAC", "1 5"}, {"ACACC", "3 5"},
+        {"ACGAAG", "1 2 6"}, {"ACCACG", "4 5 6"}, {"AACAAC", "2 6"}, {"CAACAA", "1 6"}, {"GAATTC", "1 3 5 6"}, {"GTAAAA", "1 2 6"}};
+    for (size_t i = 0; i < sizeof keys / sizeof keys[0]; i++) {
+        record(mirror_open, keys[i].letters, capacity, from_left);
+        pieces(keys[i].ends);
+    }
+}
+
+/* the words of 001's figure 1 and example 3.2, of sitting 14 and of 003's figure 1; before them two in which palindromes of one series
+ * end at the same place: C ACAACA AA and not CAC AACAA A; ACAACA A, though AACAA ends there too */
+static void pieces_of_longer_records(uint64_t capacity, int from_left)
+{
+    record(mirror_open, "CACAACAAA", capacity, from_left);
+    pieces("1 7 9");
+    record(mirror_open, "ACAACAA", capacity, from_left);
+    pieces("6 7");
+    record(mirror_open, "AACGCAA", capacity, from_left);
+    pieces("7");
+    record(mirror_open, "AACAACAACA", capacity, from_left);
+    pieces("1 10");
+    record(mirror_open, "AACACCAACACAC", capacity, from_left);
+    pieces("1 4 6 8 13"); /* A ACA CC AA CACAC; AA C ACCA A CACAC has a shorter one before the last */
+    record(mirror_open, "AAACACACACCACC", capacity, from_left);
+    pieces("2 9 14");
+}
+
+/* letters come and go at either end, so that every end moves, and rows are taken again */
+static void pieces_of_changes(uint64_t capacity)
+{
+    record(mirror_open, "ACGAAG", capacity, 0);
+    goes(1, 'A', NULL);
+    pieces("1 5"); /* C GAAG */
+    goes(0, 'G', "GAAG");
+    pieces("1 2 4"); /* C G AA */
+    goes(1, 'C', "C");
+    pieces("1 3");
+    key("CGAA once more", 1, mirror_flag(mirror_add_left(store, length, 'C')));
+    pieces("1 2 4");
+    key("CGAAC", 0, mirror_flag(mirror_add_right(store, length, 'C')));
+    pieces("1 2 4 5");
+    key("CGAACG", 0, mirror_flag(mirror_add_right(store, length, 'G')));
+    pieces("1 2 4 5 6");
+    for (int i = 0; i < 6; i++) key("remove right", 0, mirror_refusal(mirror_remove_right(store, length)));
+    pieces("");
+}
+
+/* an inverted record is refused, also where it could be cut; turned it is cut, and turned back refused again */
+static void pieces_of_inverted_records(uint64_t capacity, int from_left)
+{
+    static const struct { const char *letters, *ends; } keys[] = {{"", ""}, {"A", "1"}, {"AT", "1 2"}, {"ATAT", "1 4"}, {"GAATTC", "1 3 5 6"}, {"ACGAAG", "1 2 6"}};
+    for (size_t i = 0; i < sizeof keys / sizeof keys[0]; i++) {
+        record(mirror_open_inverted, keys[i].letters, capacity, from_left);
+        not_cut();
+        key("turn plain", 0, mirror_turn_plain(store, length));
+        pieces(keys[i].ends);
+        key("turn inverted", 0, mirror_turn_inverted(store, length));
+        not_cut();
+    }
+}
+
+/* full records: one piece; two, whose ends take both bytes; the second of two as good left for the first; and as many as letters */
+static void pieces_of_full_records(int from_left)
+{
+    char letters[1025] = "";
+    uint8_t out[2049];
+    memset(letters, 'A', 1024);
+    record(mirror_open, letters, 1024, from_left);
+    pieces("1024");
+    letters[300] = 'C';
+    record(mirror_open, letters, 1024, from_left);
+    pieces("601 1024");
+    letters[0] = 'G', letters[1] = 'T', letters[300] = 'A';
+    record(mirror_open, letters, 1024, from_left);
+    pieces("1 2 1024");
+    for (size_t i = 0; i < 1024; i++) letters[i] = "AC"[i % 2];
+    record(mirror_open, letters, 1024, from_left);
+    pieces("1 1024");
+    for (size_t i = 0; i < 1024; i++) letters[i] = "ACG"[i % 3];
+    record(mirror_open, letters, 1024, from_left);
+    memset(out, '?', sizeof out);
+    key("a byte too few for 1,024 pieces", 9, mirror_pieces(store, length, out, 2047));
+    key("no byte is written", '?', out[0]);
+    key("1,024 pieces", 1024ull << 32, mirror_pieces(store, length, out, 2048));
+    for (size_t i = 0; i < 1024; i++) key("an end", i + 1, mirror_piece_end(out, i));
+    key("the byte behind them", '?', out[2048]);
+}
+
+/* what the header says is always enough: two bytes for each letter */
+static void room_for_pieces(void)
+{
+    static const struct { size_t letters, bytes; } rooms[] = {{0, 0}, {1, 2}, {127, 254}, {128, 256}, {1024, 2048}};
+    for (size_t i = 0; i < sizeof rooms / sizeof rooms[0]; i++) key("room enough", rooms[i].bytes, MIRROR_PIECES_SIZE(rooms[i].letters));
+}
+
+/* ---- calls that write, on stores that are not good */
+
+/* such a store is refused before the reading and the room are looked at, and no byte is written */
+static void refused_while_damaged(opening *open, writing *call)
 {
     uint8_t out[64];
     record(open, "GAATTC", 8, 0);
     store[24 * 10 + 2] = 'a'; /* the third letter, by docs/LAYOUT.md */
     memset(out, '?', sizeof out);
     memcpy(before, store, sizeof store);
-    for (size_t room = 0; room <= sizeof out; room++) key("minimal unique in what is not good", 3, mirror_minimal_unique(store, length, out, room));
+    for (size_t room = 0; room <= sizeof out; room++) key("written of what is not good", 3, call(store, length, out, room));
     key("the store stays", 0, memcmp(before, store, sizeof store) != 0);
     store[24 * 10 + 2] = 'A';
-    key("minimal unique in a store too short", 3, mirror_minimal_unique(store, length - 1, out, 0));
+    key("written of a store too short", 3, call(store, length - 1, out, 0));
     for (size_t i = 0; i < sizeof out; i++) key("every byte stays", '?', out[i]);
+}
+
+/* each of them, and what it writes once the store is good again */
+static void written_of_damaged_stores(opening *open)
+{
+    refused_while_damaged(open, mirror_genbank);
+    printed("ORIGIN\n        1 gaattc\n//\n");
+    refused_while_damaged(open, mirror_minimal_unique);
     minimal(open == mirror_open ? "0-1 1-3 3-5 5-6" : "2-4");
+    refused_while_damaged(open, mirror_pieces);
+    if (open == mirror_open) pieces("1 3 5 6");
+    else not_cut();
 }
 
 /* ---- uncertain bases, 02 (xii) */
@@ -1019,22 +1159,6 @@ static void longest_page(opening *open)
     key("the byte behind it", '?', out[1317]);
 }
 
-/* a store that is not good is refused before the room is looked at, and no byte is written */
-static void pages_of_damaged_stores(opening *open)
-{
-    uint8_t out[64];
-    record(open, "GATTACA", 8, 0);
-    store[24 * 10 + 3] = 'a'; /* the fourth letter, by docs/LAYOUT.md */
-    memset(out, '?', sizeof out);
-    memcpy(before, store, sizeof store);
-    for (size_t room = 0; room <= sizeof out; room++) key("page of what is not good", 3, mirror_genbank(store, length, out, room));
-    key("the store stays", 0, memcmp(before, store, sizeof store) != 0);
-    store[24 * 10 + 3] = 'T';
-    key("page of a store too short", 3, mirror_genbank(store, length - 1, out, 0));
-    for (size_t i = 0; i < sizeof out; i++) key("every byte stays", '?', out[i]);
-    key("it is good again", 28ull << 32, mirror_genbank(store, length, out, sizeof out));
-}
-
 /* the keys that ask for no repeat */
 static void either_reading(opening *open)
 {
@@ -1050,8 +1174,44 @@ static void either_reading(opening *open)
     for (int from_left = 0; from_left < 2; from_left++) pages(open, from_left);
     pages_of_changes(open);
     longest_page(open);
-    pages_of_damaged_stores(open);
-    minimal_of_damaged_stores(open);
+    written_of_damaged_stores(open);
+}
+
+/* the keys of one word, built from either end */
+static void from_either_end(uint64_t capacity, int from_left)
+{
+    short_records(capacity, from_left);
+    longer_records(capacity, from_left);
+    restriction_site(capacity, from_left);
+    no_repeats(capacity, from_left);
+    if (capacity >= 10) nested_repeats(capacity, from_left);
+    there_and_back(capacity, from_left);
+    damaged(capacity, from_left);
+    lengths(capacity, from_left);
+    inverted_lengths(capacity, from_left);
+    breaks_plain(capacity, from_left);
+    breaks_inverted(capacity, from_left);
+    if (capacity >= 10) places_of_a_figure(capacity, from_left);
+    places_of_short_records(capacity, from_left);
+    inverted_places(capacity, from_left);
+    minimal_of_short_records(capacity, from_left);
+    if (capacity >= 14) minimal_of_longer_records(capacity, from_left);
+    minimal_of_inverted_records(capacity, from_left);
+    pieces_of_short_records(capacity, from_left);
+    if (capacity >= 14) pieces_of_longer_records(capacity, from_left);
+    pieces_of_inverted_records(capacity, from_left);
+}
+
+static void at_capacity(uint64_t capacity)
+{
+    for (int from_left = 0; from_left < 2; from_left++) from_either_end(capacity, from_left);
+    searches(capacity);
+    searches_after_turns(capacity);
+    breaks_turned(capacity);
+    places_of_rows_taken_again(capacity);
+    rows_without_places(capacity);
+    minimal_of_changes(capacity);
+    pieces_of_changes(capacity);
 }
 
 int main(void)
@@ -1062,53 +1222,18 @@ int main(void)
         empty_turned(i);
         scratch_of_lists(openings[i]);
     }
-    for (size_t k = 0; k < sizeof capacities / sizeof capacities[0]; k++)
-        for (int from_left = 0; from_left < 2; from_left++) {
-            short_records(capacities[k], from_left);
-            longer_records(capacities[k], from_left);
-            restriction_site(capacities[k], from_left);
-            no_repeats(capacities[k], from_left);
-            if (capacities[k] >= 10) nested_repeats(capacities[k], from_left);
-            there_and_back(capacities[k], from_left);
-            damaged(capacities[k], from_left);
-            lengths(capacities[k], from_left);
-            inverted_lengths(capacities[k], from_left);
-        }
-    for (size_t k = 0; k < sizeof capacities / sizeof capacities[0]; k++) {
-        searches(capacities[k]);
-        searches_after_turns(capacities[k]);
-    }
-    for (size_t k = 0; k < sizeof capacities / sizeof capacities[0]; k++) {
-        for (int from_left = 0; from_left < 2; from_left++) {
-            breaks_plain(capacities[k], from_left);
-            breaks_inverted(capacities[k], from_left);
-        }
-        breaks_turned(capacities[k]);
-    }
-    for (size_t k = 0; k < sizeof capacities / sizeof capacities[0]; k++) {
-        for (int from_left = 0; from_left < 2; from_left++) {
-            if (capacities[k] >= 10) places_of_a_figure(capacities[k], from_left);
-            places_of_short_records(capacities[k], from_left);
-            inverted_places(capacities[k], from_left);
-        }
-        places_of_rows_taken_again(capacities[k]);
-        rows_without_places(capacities[k]);
-    }
-    for (size_t k = 0; k < sizeof capacities / sizeof capacities[0]; k++) {
-        for (int from_left = 0; from_left < 2; from_left++) {
-            minimal_of_short_records(capacities[k], from_left);
-            if (capacities[k] >= 14) minimal_of_longer_records(capacities[k], from_left);
-            minimal_of_inverted_records(capacities[k], from_left);
-        }
-        minimal_of_changes(capacities[k]);
-    }
+    for (size_t k = 0; k < sizeof capacities / sizeof capacities[0]; k++) at_capacity(capacities[k]);
     for (int from_left = 0; from_left < 2; from_left++) {
         most_places(from_left);
         minimal_of_full_records(from_left);
+        pieces_of_full_records(from_left);
     }
     places_of_rows_taken_again(2);
     places_of_pairs();
     room_for_minimal();
+    room_for_pieces();
+    record(mirror_open, "A", 1, 0);
+    pieces("1");
     uncertain_texts();
     lengths_of_pages();
     longest_of_all();

@@ -1,5 +1,5 @@
 /* The store's bytes by docs/LAYOUT.md, for the tests that look into a store, and by docs/HOST.md the list's scratch and the bytes of
- * a list of minimal unique repeats: nothing here comes from the library or its header. */
+ * a list of minimal unique repeats and of pieces: nothing here comes from the library or its header. */
 #ifndef LAYOUT_H
 #define LAYOUT_H
 #include <stddef.h>
@@ -18,11 +18,16 @@ static inline unsigned layout_cell(const uint8_t *store, size_t row, size_t cell
     return at[0] + 256u * at[1];
 }
 
+/* a number in two bytes, low byte first */
+static inline void layout_number(uint8_t *at, size_t number)
+{
+    at[0] = (uint8_t)number;
+    at[1] = (uint8_t)(number >> 8);
+}
+
 static inline void layout_put(uint8_t *store, size_t row, size_t cell, unsigned value)
 {
-    uint8_t *at = store + ROW_BYTES * row + 2 * cell;
-    at[0] = (uint8_t)value;
-    at[1] = (uint8_t)(value >> 8);
+    layout_number(store + ROW_BYTES * row + 2 * cell, value);
 }
 
 static inline size_t layout_letters(size_t capacity)
@@ -47,15 +52,19 @@ static inline size_t layout_scratch(size_t letters)
     return letters / 8 + (letters % 8 > 0);
 }
 
-enum { STRETCH_BYTES = 4 };
+enum { STRETCH_BYTES = 4, PIECE_BYTES = 2 };
 
-/* the i-th stretch of a list of minimal unique repeats: its start and its end, two bytes each, low byte first */
+/* the i-th stretch of a list of minimal unique repeats: its start and its end */
 static inline void layout_stretch(uint8_t *out, size_t i, size_t start, size_t end)
 {
-    uint8_t *at = out + STRETCH_BYTES * i;
-    at[0] = (uint8_t)start;
-    at[1] = (uint8_t)(start >> 8);
-    at[2] = (uint8_t)end;
-    at[3] = (uint8_t)(end >> 8);
+    layout_number(out + STRETCH_BYTES * i, start);
+    layout_number(out + STRETCH_BYTES * i + 2, end);
+}
+
+/* n pieces of a record: where each ends; how many bytes that takes */
+static inline size_t layout_pieces(uint8_t *out, const size_t *ends, size_t n)
+{
+    for (size_t i = 0; i < n; i++) layout_number(out + PIECE_BYTES * i, ends[i]);
+    return PIECE_BYTES * n;
 }
 #endif

@@ -15,72 +15,28 @@
 #include "mirror.h"
 #include "random.h"
 #include "words.h"
+#include "written.h"
 #include <stdio.h>
-#include <string.h>
 
-enum { MOST = WORD_LENGTH, SHORT = 6, ABOUT = 9, FEW = 40, FAR = 70000, OUT_SLOT = FOLLOWED_SLOT + 1 };
+enum { MOST = WORD_LENGTH, SHORT = 6 };
 
-static const uint8_t fillings[] = {0, 1, 4, 'A', 0xff};
-static uint8_t *out, kept[MIRROR_STORE_SIZE(MOST)];
 static stretch wanted[MOST]; /* where each must stand */
-static uint8_t bytes[STRETCH_BYTES * MOST]; /* and how that is written */
-static size_t number, need;
-static unsigned long records, lists, listed, most, by_lemma, refused, damaged;
+static size_t number;
+static unsigned long records, listed, most, by_lemma;
 static unsigned long above[READINGS], falling[READINGS], wide[READINGS];
 
 /* ---- one list */
-
-static void store_stays(void)
-{
-    must("a byte of the store changed", 0, memcmp(record.store, kept, record.length) != 0);
-}
-
-/* how many of the n bytes hold another value */
-static size_t others_than(uint8_t value, const uint8_t *at, size_t n)
-{
-    size_t found = 0;
-    for (size_t i = 0; i < n; i++) found += at[i] != value;
-    return found;
-}
-
-/* lists into so many bytes that all hold one value */
-static void ask(size_t room)
-{
-    uint8_t value = fillings[(room + lists) % sizeof fillings];
-    int fits = room >= need;
-    size_t behind = fits ? need : 0;
-    out = guard_room(OUT_SLOT, room);
-    memset(out, value, room);
-    must("the answer", fits ? (uint64_t)number << 32 : MIRROR_NO_ROOM, mirror_minimal_unique(record.store, record.length, out, room));
-    must("a byte of the list differs", 0, fits && memcmp(out, bytes, need) != 0);
-    must(fits ? "a byte behind the list" : "a byte after a refusal", 0, others_than(value, out + behind, room - behind));
-    lists += (unsigned long)fits;
-    refused += !fits;
-}
-
-/* every room from none to some bytes more than the need, or where that is many those about it; odd ones, what is always enough, far
- * more */
-static void every_room(void)
-{
-    static const size_t some[] = {1, 2, 3, 5, 4 * MOST - 1, 4 * MOST, 4 * MOST + 1, FAR};
-    for (size_t room = need > FEW ? need - ABOUT : 0; room <= need + ABOUT; room++) ask(room);
-    for (size_t i = 0; i < sizeof some / sizeof some[0]; i++) ask(some[i]);
-    ask(0);
-    ask(need / 2);
-    ask(MIRROR_MINIMAL_UNIQUE_SIZE(record.size));
-    store_stays();
-}
 
 /* what was written last, read as the header reads it */
 static void obeys(void)
 {
     must("more than letters", 1, number <= record.size);
-    must("more bytes than are always enough", 1, need <= MIRROR_MINIMAL_UNIQUE_SIZE(record.size));
+    must("more bytes than are always enough", 1, asked.need <= MIRROR_MINIMAL_UNIQUE_SIZE(record.size));
     for (size_t i = 0; i < number; i++) {
-        size_t start = mirror_start(out, i), end = mirror_end(out, i);
+        size_t start = mirror_start(asked.out, i), end = mirror_end(asked.out, i);
         must("no stretch of the record", 1, start < end && end <= record.size);
-        must("a start does not rise", 1, i == 0 || mirror_start(out, i - 1) < start);
-        must("an end does not rise", 1, i == 0 || mirror_end(out, i - 1) < end);
+        must("a start does not rise", 1, i == 0 || mirror_start(asked.out, i - 1) < start);
+        must("an end does not rise", 1, i == 0 || mirror_end(asked.out, i - 1) < end);
         must("the longest at its right end", brute_right(record.rule, record.letters, end), end - start);
         must("it ends there first", start, brute_first(record.letters + start, end - start, record.letters, record.size));
         wide[record.reading] += start > 255;
@@ -91,13 +47,14 @@ static void obeys(void)
 static void one_list(void)
 {
     number = brute_minimal_unique(record.rule, record.letters, record.size, wanted);
-    need = STRETCH_BYTES * number;
-    for (size_t i = 0; i < number; i++) layout_stretch(bytes, i, wanted[i].start, wanted[i].end);
-    memcpy(kept, record.store, record.length);
-    if (need > 0) ask(need - 1);
-    ask(need);
+    asked.answer = (uint64_t)number << 32;
+    asked.need = STRETCH_BYTES * number;
+    for (size_t i = 0; i < number; i++) layout_stretch(asked.bytes, i, wanted[i].start, wanted[i].end);
+    written_keep();
+    if (number > 0) written_ask(asked.need - 1);
+    written_ask(asked.need);
     obeys();
-    store_stays();
+    written_store_stays();
     records++;
     listed += number;
     if (number > most) most = number;
@@ -151,64 +108,21 @@ static void same_by_rows(void)
     by_lemma += found;
 }
 
-/* ---- stores that are not good */
-
-/* 3 comes before 9, and neither writes a byte */
-static void not_good(const char *what)
-{
-    const size_t rooms[] = {0, need - (need > 0), need, need + ABOUT, 4 * MOST};
-    for (size_t i = 0; i < sizeof rooms / sizeof rooms[0]; i++) {
-        out = guard_room(OUT_SLOT, rooms[i]);
-        memset(out, 'x', rooms[i]);
-        must(what, MIRROR_DAMAGED, mirror_minimal_unique(record.store, record.length, out, rooms[i]));
-        must("a byte of what is not good", 0, others_than('x', out, rooms[i]));
-        damaged++;
-    }
-}
-
-/* another number in a cell, and then its own again */
-static void wrong_cell(const char *what, size_t row, size_t cell, unsigned value)
-{
-    unsigned was = layout_cell(record.store, row, cell);
-    layout_put(record.store, row, cell, value);
-    not_good(what);
-    layout_put(record.store, row, cell, was);
-}
-
-/* a letter that is none, a reading that is none, an inner row or a link that is another, a byte too few */
-static void damage(void)
-{
-    uint8_t *letter = record.store + layout_letters(record.capacity) + record.size / 2, was = *letter;
-    if (record.size > 0) *letter = 'N', not_good("a letter that is none");
-    *letter = was;
-    wrong_cell("a reading that is none", 0, CELL_READING, READINGS);
-    for (size_t row = 2; row < record.capacity + 2; row += 1 + record.capacity / 8) {
-        wrong_cell("another inner row", row, CELL_INNER, layout_cell(record.store, row, CELL_INNER) + 1);
-        wrong_cell("another link", row, CELL_LINK, layout_cell(record.store, row, CELL_LINK) + 1);
-    }
-    record.length--;
-    not_good("a store too short");
-    record.length++;
-    store_stays();
-    ask(need);
-}
-
 /* ---- records */
 
-/* buffers that end at a guard page and that begin after one, in turn */
-static void other_guards(void)
+static void every_room(void)
 {
-    guard_at(records % 2 ? GUARD_BEFORE : GUARD_AFTER);
+    written_every_room(MIRROR_MINIMAL_UNIQUE_SIZE(record.size));
 }
 
 static void one_word(unsigned reading, const unsigned char *word, size_t n, int way)
 {
-    other_guards();
+    guard_in_turn();
     make_record(reading, word, n, way);
     one_list();
     if (records % 8 == 0) every_room();
     if (records % 8 == 1) same_by_rows();
-    if (records % 64 == 0) damage();
+    if (records % 64 == 0) written_damage();
 }
 
 /* every word of up to six letters in every way, and those of seven each in one */
@@ -229,7 +143,7 @@ static void short_words(unsigned reading)
 static void moving_record(unsigned reading, unsigned alphabet)
 {
     unsigned steps = 20 + random_below(80), left = random_below(2);
-    other_guards();
+    guard_in_turn();
     followed_open(reading, 1 + random_below(random_below(3) ? 12 : 60));
     for (unsigned i = 0; i < steps || record.size > 0; i++) {
         unsigned char letter = (unsigned char)"ATCG"[random_below(alphabet)];
@@ -241,19 +155,19 @@ static void moving_record(unsigned reading, unsigned alphabet)
         one_list();
         same_by_rows();
         if (i % 16 == 0) every_room();
-        if (i % 32 == 0) damage();
+        if (i % 32 == 0) written_damage();
     }
 }
 
 /* of the full records each other one is held against its rows too, which takes most of the time */
 static void long_word(unsigned reading, const unsigned char *word, size_t n, int way)
 {
-    other_guards();
+    guard_in_turn();
     make_record(reading, word, n, way);
     one_list();
     if (n < MOST || records % 2) same_by_rows();
     every_room();
-    damage();
+    written_damage();
 }
 
 /* more places than a byte can number, in every way; and full records in every way but behind others */
@@ -294,6 +208,7 @@ static void many_in_one(unsigned reading)
 int main(int argc, char **argv)
 {
     random_seed(argc > 1 ? argv[1] : NULL, 20261121);
+    asked.call = mirror_minimal_unique;
     for (unsigned reading = PLAIN; reading < READINGS; reading++) {
         short_words(reading);
         for (unsigned i = 0; i < 120; i++) moving_record(reading, 1 + i % 4);
@@ -306,7 +221,7 @@ int main(int argc, char **argv)
         must("a start above 255", 1, wide[record.reading] > 0);
     }
     printf("%lu records with %lu minimal unique repeats, at most %lu in one, %lu of them by lemma 5 too: ", records, listed, most, by_lemma);
-    printf("%lu lists, %lu rooms too small and %lu stores that are not good refused; ", lists, refused, damaged);
+    printf("%lu lists, %lu rooms too small and %lu stores that are not good refused; ", asked.lent, asked.refused, asked.damaged);
     printf("%lu and %lu rows with a higher inner row\n", above[PLAIN], above[INVERTED]);
     return 0;
 }

@@ -254,38 +254,43 @@ static void ask_list(void)
     listed(text, size, guarded(PIECE_SLOT, (unsigned char *)name, name_length), name_length);
 }
 
-/* the page into a byte too few, into just its bytes, and with some to spare */
+typedef uint64_t writing(const uint8_t *, size_t, uint8_t *, size_t);
+
+/* a question that writes bytes: into a byte too few, if there are any, into just these bytes, and with some to spare */
+static void ask_written(const char *what, writing *call, uint64_t answer, const uint8_t *bytes, size_t n)
+{
+    for (size_t room = n - (n > 0); room <= n + 2; room++) {
+        uint8_t *out = guard_room(OUT_SLOT, room);
+        size_t written = room < n ? 0 : n;
+        memset(out, 5, room);
+        same(what, room < n ? 9 : answer, call(store, store_length, out, room));
+        for (size_t i = 0; i < room; i++) same(what, i < written ? bytes[i] : 5, out[i]); /* nothing beyond, or after a refusal */
+    }
+}
+
 static void ask_page(void)
 {
     static char page[SECOND_PAGE_ROOM];
     size_t n = second_page(letters, length, page);
-    for (size_t room = n - 1; room <= n + 2; room++) {
-        uint8_t *out = guard_room(OUT_SLOT, room);
-        size_t written = room < n ? 0 : n;
-        memset(out, 5, room);
-        same("page", room < n ? 9 : packed(0, 0, n, 0), mirror_genbank(store, store_length, out, room));
-        model_facts++;
-        if (memcmp(out, page, written) != 0) fail("printed bytes", 0, 1);
-        for (size_t i = written; i < room; i++) same("page: bytes beyond, or after a refusal", 5, out[i]);
-    }
+    ask_written("page", mirror_genbank, packed(0, 0, n, 0), (uint8_t *)page, n);
 }
 
-/* the minimal unique repeats into a byte too few, if they take any, into just their bytes, and with one to spare */
 static void ask_minimal_unique(void)
 {
     static stretch list[MODEL_MOST];
     static uint8_t bytes[STRETCH_BYTES * MODEL_MOST];
-    size_t n = brute_minimal_unique(rule, letters, length, list), need = STRETCH_BYTES * n;
+    size_t n = brute_minimal_unique(rule, letters, length, list);
     for (size_t i = 0; i < n; i++) layout_stretch(bytes, i, list[i].start, list[i].end);
-    for (size_t room = need - (need > 0); room <= need + 1; room++) {
-        uint8_t *out = guard_room(OUT_SLOT, room);
-        size_t written = room < need ? 0 : need;
-        memset(out, 5, room);
-        same("minimal unique", room < need ? 9 : packed(0, 0, n, 0), mirror_minimal_unique(store, store_length, out, room));
-        model_facts++;
-        if (memcmp(out, bytes, written) != 0) fail("where the minimal unique repeats stand", 0, 1);
-        for (size_t i = written; i < room; i++) same("minimal unique: bytes beyond, or after a refusal", 5, out[i]);
-    }
+    ask_written("minimal unique", mirror_minimal_unique, packed(0, 0, n, 0), bytes, STRETCH_BYTES * n);
+}
+
+/* the fewest pieces of a plain record; an inverted one is refused before the room is looked at */
+static void ask_cutting(void)
+{
+    static size_t ends[MODEL_MOST];
+    static uint8_t bytes[PIECE_BYTES * MODEL_MOST];
+    size_t n = reading == PLAIN ? brute_pieces(letters, length, ends) : 0;
+    ask_written("fewest pieces", mirror_pieces, reading == PLAIN ? packed(0, 0, n, 0) : 14, bytes, layout_pieces(bytes, ends, n));
 }
 
 /* the longest at an end: its row, whether it stands once only, and how often; where there is none row 1, which has no places */
@@ -358,6 +363,7 @@ void model_ask(void)
     ask_list();
     ask_page();
     ask_minimal_unique();
+    ask_cutting();
     unchanged("a question changed the store");
 }
 

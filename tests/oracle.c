@@ -139,11 +139,16 @@ static uint64_t list_answer(const call *c)
     return packed(0, 0, size, 0);
 }
 
-/* the page takes just the bytes that it has, and nothing else is asked of the buffer */
+/* so many bytes take just as much room, and nothing else is asked of the buffer */
+static uint64_t written_answer(const call *c, size_t first, size_t bytes)
+{
+    return c->out_length < bytes ? 9 : packed(0, 0, first, 0);
+}
+
 static uint64_t page_answer(const call *c)
 {
     size_t size = second_page(was.letters, was.size, (char *)wanted_out);
-    return c->out_length < size ? 9 : packed(0, 0, size, 0);
+    return written_answer(c, size, size);
 }
 
 /* as many as there are is answered, and each takes its bytes */
@@ -152,7 +157,16 @@ static uint64_t minimal_unique_answer(const call *c)
     static stretch list[LAYOUT_MOST];
     size_t n = brute_minimal_unique(was.rule, was.letters, was.size, list);
     for (size_t i = 0; i < n; i++) layout_stretch(wanted_out, i, list[i].start, list[i].end);
-    return c->out_length < STRETCH_BYTES * n ? 9 : packed(0, 0, n, 0);
+    return written_answer(c, n, STRETCH_BYTES * n);
+}
+
+/* an inverted record is not cut, whatever the room */
+static uint64_t pieces_answer(const call *c)
+{
+    static size_t ends[LAYOUT_MOST];
+    if (was.reading != PLAIN) return 14;
+    size_t n = brute_pieces(was.letters, was.size, ends);
+    return written_answer(c, n, layout_pieces(wanted_out, ends, n));
 }
 
 static uint64_t wanted_answer(const call *c)
@@ -173,23 +187,16 @@ static uint64_t wanted_answer(const call *c)
     case LIST: return list_answer(c);
     case GENBANK: return page_answer(c);
     case MINIMAL_UNIQUE: return minimal_unique_answer(c);
+    case PIECES: return pieces_answer(c);
     default: return change_answer(c);
     }
-}
-
-/* how many bytes an accepted call wrote */
-static size_t written_by(const call *c, uint64_t answer)
-{
-    size_t first = answer >> 32 & 0xffff;
-    if (c->kind == MINIMAL_UNIQUE) return STRETCH_BYTES * first;
-    return c->kind == LIST || c->kind == SPELL || c->kind == GENBANK ? first : 0;
 }
 
 /* the lent buffers: what must be written is, and every other byte is as it was lent */
 static void check_buffers(const call *c, size_t length, uint64_t answer)
 {
     int done = (answer & 0xff) == 0;
-    size_t written = done ? written_by(c, answer) : 0;
+    size_t written = done ? call_wrote(c->kind, answer) : 0;
     size_t cleared = done && c->kind == LIST ? layout_scratch(was.size) : 0;
     if (c->text_length && memcmp(lent.text, c->text, c->text_length) != 0) fail(c, "the piece or identifier changed", 0, 1, length);
     for (size_t i = 0; i < c->out_length; i++) {

@@ -3,7 +3,7 @@
  * and turned, with their letters put in at the right, at the left, at both ends and between letters that go again, are printed into
  * every room from twelve bytes too few (short records from none) to twelve more than the page has; records that grow to 1,024
  * letters and shrink again are printed after every change. Too little room is 9 and leaves every byte; else the page stands at the
- * front, and every byte behind it stays. Before the call the room holds one of eight byte values, most of which a page has too. The
+ * front, and every byte behind it stays. Before the call the room holds one of eleven byte values, most of which a page has too. The
  * page of a record that is turned is the same; no byte of a store may change; what is not good is 3, whatever the room. The
  * buffers end at a guard page or begin right after one. Usage: printing [seed] */
 #include "brute.h"
@@ -13,18 +13,15 @@
 #include "mirror.h"
 #include "random.h"
 #include "second_page.h"
+#include "written.h"
 #include <ctype.h>
 #include <stdio.h>
 #include <string.h>
 
-enum { MOST = LAYOUT_MOST, SHORT = 130, FROM_NONE = 12, ABOUT = 12, OTHERS = 7, OUT_SLOT = FOLLOWED_SLOT + 1 };
+enum { MOST = LAYOUT_MOST, SHORT = 130, OTHERS = 7 };
 enum { AT_THE_RIGHT, AT_THE_LEFT, AT_BOTH_ENDS, BETWEEN_OTHERS, WAYS };
 
-static const uint8_t fillings[] = {' ', '\n', 0, '1', 'a', 'T', '/', 0xff};
-static uint8_t *out, kept[MIRROR_STORE_SIZE(MOST)];
-static char page[SECOND_PAGE_ROOM]; /* of these letters, by the second writer */
-static size_t need;
-static unsigned long pages, refused, damaged, read_back, turned;
+static unsigned long read_back, turned;
 
 /* ---- one record */
 
@@ -52,31 +49,13 @@ static void make_record(unsigned wanted, size_t n, int way, int turns)
 
 /* ---- one page */
 
-/* prints into so many bytes that all hold the value; 1 where the page was written */
-static int print(size_t room, uint8_t value)
-{
-    int fits = room >= need;
-    out = guard_room(OUT_SLOT, room);
-    memset(out, value, room);
-    must("the answer", fits ? (uint64_t)need << 32 : MIRROR_NO_ROOM, mirror_genbank(record.store, record.length, out, room));
-    must("a byte of the page differs", 0, fits && memcmp(out, page, need) != 0);
-    for (size_t i = fits ? need : 0; i < room; i++) must(fits ? "a byte behind the page" : "a byte after a refusal", value, out[i]);
-    pages += (unsigned long)fits;
-    refused += !fits;
-    return fits;
-}
-
 /* the page of the letters that the record must have now */
 static void choose_page(void)
 {
-    need = second_page(record.letters, record.size, page);
-    must("the length by the header", need, MIRROR_GENBANK_SIZE(record.size));
-    memcpy(kept, record.store, record.length);
-}
-
-static void store_stays(void)
-{
-    must("a byte of the store changed", 0, memcmp(record.store, kept, record.length) != 0);
+    asked.need = second_page(record.letters, record.size, (char *)asked.bytes);
+    asked.answer = (uint64_t)asked.need << 32;
+    must("the length by the header", asked.need, MIRROR_GENBANK_SIZE(record.size));
+    written_keep();
 }
 
 /* One line, column by column: nine for the place of its first letter, then in each eleventh column, from the first behind them
@@ -104,21 +83,13 @@ static const uint8_t *read_line(const uint8_t *line, size_t first)
 /* what was printed last, read without the second writer */
 static void read_page(void)
 {
-    const uint8_t *line = out;
+    const uint8_t *line = asked.out;
     must("the first line", 0, memcmp(line, "ORIGIN\n", 7) != 0);
     line += 7;
     for (size_t first = 0; first < record.size; first += 60) line = read_line(line, first);
     must("the last line", 0, memcmp(line, "//\n", 3) != 0);
-    must("the page's length", need, (uint64_t)(line + 3 - out));
+    must("the page's length", asked.need, (uint64_t)(line + 3 - asked.out));
     read_back++;
-}
-
-/* every room about the need, or from none on; those that are enough are more than the values, so each value lies under a page */
-static void every_room(void)
-{
-    size_t from = need > ABOUT && record.size > FROM_NONE ? need - ABOUT : 0;
-    for (size_t room = from; room <= need + ABOUT; room++) print(room, fillings[(room + record.size) % sizeof fillings]);
-    store_stays();
 }
 
 /* the record turned: the same bytes, and again the same once it is turned back */
@@ -126,42 +97,10 @@ static void either_reading(void)
 {
     for (int i = 0; i < 2; i++) {
         turn();
-        memcpy(kept, record.store, record.length);
-        for (size_t room = need - 1; room <= need + 1; room++) print(room, fillings[(room + (size_t)i) % sizeof fillings]);
-        store_stays();
+        written_keep();
+        for (size_t room = asked.need - 1; room <= asked.need + 1; room++) written_ask(room);
+        written_store_stays();
     }
-}
-
-/* 3 comes before 9, and neither writes a byte */
-static void not_good(const char *what)
-{
-    const size_t rooms[] = {0, need - 1, need, need + ABOUT};
-    for (size_t i = 0; i < sizeof rooms / sizeof rooms[0]; i++) {
-        out = guard_room(OUT_SLOT, rooms[i]);
-        memset(out, 'x', rooms[i]);
-        must(what, MIRROR_DAMAGED, mirror_genbank(record.store, record.length, out, rooms[i]));
-        for (size_t k = 0; k < rooms[i]; k++) must("a byte of what is not good", 'x', out[k]);
-        damaged++;
-    }
-}
-
-/* a letter that is none, a small one, a reading that is none, a byte too few */
-static void damage(void)
-{
-    uint8_t *letter = record.store + layout_letters(record.capacity) + record.size / 2, was = *letter;
-    for (const char *other = "Nacgt "; record.size > 0 && *other; other++) {
-        *letter = (uint8_t)*other;
-        not_good("a letter that is none");
-    }
-    *letter = was;
-    layout_put(record.store, 0, CELL_READING, READINGS);
-    not_good("a reading that is none");
-    layout_put(record.store, 0, CELL_READING, record.reading);
-    record.length--;
-    not_good("a store too short");
-    record.length++;
-    store_stays();
-    must("it is good again", 1, (uint64_t)print(need, 'x'));
 }
 
 /* ---- all of it */
@@ -171,10 +110,10 @@ static void one_record(unsigned wanted, size_t n, int way, int turns)
     guard_at((n + (size_t)way) % 2 ? GUARD_BEFORE : GUARD_AFTER);
     make_record(wanted, n, way, turns);
     choose_page();
-    every_room();
+    written_about();
     read_page();
     either_reading();
-    damage();
+    written_damage();
 }
 
 /* a record that grows to 1,024 letters and shrinks again, with the page after every change into just its bytes, one more, or one
@@ -185,9 +124,9 @@ static void moving_record(unsigned wanted, int way)
     followed_open(wanted, MOST);
     for (size_t i = 0; i <= 2 * MOST; i++) {
         choose_page();
-        print(need, fillings[i % sizeof fillings]);
-        print(i % 2 ? need - 1 : need + 1, fillings[(i + 3) % sizeof fillings]);
-        store_stays();
+        written_ask(asked.need);
+        written_ask(i % 2 ? asked.need - 1 : asked.need + 1);
+        written_store_stays();
         int left = way == AT_THE_LEFT || (way == AT_BOTH_ENDS && random_below(2));
         if (i < MOST) join(left);
         else if (record.size > 0) followed_leave(left);
@@ -198,6 +137,7 @@ int main(int argc, char **argv)
 {
     static const size_t lengths[] = {999, 1000, 1001, 1023, 1024};
     random_seed(argc > 1 ? argv[1] : NULL, 20261120);
+    asked.call = mirror_genbank;
     for (unsigned wanted = PLAIN; wanted < READINGS; wanted++) {
         for (size_t n = 0; n <= SHORT; n++)
             for (int way = 0; way < WAYS; way++) one_record(wanted, n, way, (n + (size_t)way) % 3 == 0);
@@ -205,6 +145,6 @@ int main(int argc, char **argv)
         for (int way = 0; way <= AT_BOTH_ENDS; way++) moving_record(wanted, way);
     }
     printf("%lu pages of 0 to 1,024 letters, %lu of them read back, after %lu turns; %lu rooms too small and %lu stores that are not good refused\n",
-           pages, read_back, turned, refused, damaged);
+           asked.lent, read_back, turned, asked.refused, asked.damaged);
     return 0;
 }

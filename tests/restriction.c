@@ -4,9 +4,9 @@
  * alone. Some are opened inverted; others plain, where no site of the first kind is found, and are turned to the inverted
  * reading then. An absent site is told with the pair at which it breaks, in the record's reading; a site that is found has as many
  * places as it stands at. The longest length is that of the longest stretch that reads alike, and all places are as many as there
- * are such stretches. Minimal unique are those that stand once and have nothing within, or what stands again. The page of a record
- * has its letters, in small ones, as a program would read them that passes over all else. Whether letters read alike is tried here
- * in a few lines, and no other test's program is asked. A wrong answer is told on standard error, and the program ends with 1. */
+ * are such stretches. Minimal unique are those that stand once and have nothing within, or what stands again. No inverted record is
+ * cut into pieces. The page of a record has its letters, in small ones, as a program would read them that passes over all else. Whether
+ * letters read alike is tried here in a few lines, and no other test's program is asked. A wrong answer is told on standard error, and the program ends with 1. */
 #include "mirror.h"
 #include "random.h"
 #include <ctype.h>
@@ -186,6 +186,14 @@ static void minimal_unique(void)
     minimal += bytes / 4;
 }
 
+/* an inverted record is not cut, whatever the room */
+static void not_cut(void)
+{
+    uint8_t got[MIRROR_PIECES_SIZE(MOST)];
+    key("pieces of an inverted record", MIRROR_INVERTED, mirror_pieces(store, length, got, sizeof got));
+    key("pieces of an inverted record into no byte", MIRROR_INVERTED, mirror_pieces(store, length, NULL, 0));
+}
+
 /* the piece is found, its row has its length, stands as often as it does and spells it */
 static void is_found(const char *piece, size_t n)
 {
@@ -260,13 +268,16 @@ static void between_flanks(const entry *e, int at_both_ends, int turned)
     longest_length();
     all_places();
     minimal_unique();
+    not_cut();
     take_apart(before, after);
     every_site(even, EVEN, 1);
     every_site(uneven, UNEVEN, 1);
     longest_length();
     all_places();
     minimal_unique();
+    not_cut();
     take_apart(m / 2, m - m / 2);
+    not_cut();
     key("repeats of no letters", 0, mirror_count(store, length));
     key("places of no letters", 0, mirror_occurrences(store, length));
     key("minimal unique of no letters", 0, mirror_minimal_unique(store, length, NULL, 0));

@@ -3,7 +3,8 @@
  * was freed last or, where none is left of those, the lowest that was never taken; an opening and a turn to the other reading
  * begin anew, and after a turn the repeats take their rows in the order in which they first end. So every accepted call has one
  * right answer, and every table of rows one right content; the page of a record is that of a second writer, and the lengths of a text
- * of uncertain bases, or its refusal, are those of a second program, which makes every choice where the text is short. A dozen
+ * of uncertain bases, or its refusal, are those of a second program, which makes every choice where the text is short. What is said of
+ * the fewest pieces is judged where they are refused too. A dozen
  * sittings, each with a title of its own (##), are the least. It makes no call: that the library answers what the keys say is what
  * tests/key looks at. Usage: samples KEY.. */
 #include "brute.h"
@@ -220,9 +221,20 @@ static void say_minimal(const char *room, char *said)
     for (size_t i = 0; i < n; i++) said += sprintf(said, "%s%zu to %zu", i ? ", " : "", all[i].start, all[i].end);
 }
 
-static int about_codes(const char *call)
+/* the fewest pieces and where each ends; an inverted record is refused before the bytes that a call names are looked at */
+static void say_pieces(const char *room, char *said)
 {
-    return strcmp(call, "uncertain") == 0 || strncmp(call, "uncertain ", 10) == 0;
+    size_t ends[MOST], n = brute_pieces(letters, size, ends);
+    int refused = reading != PLAIN ? 14 : *room && strtoul(room, NULL, 10) < 2 * n ? 9 : 0;
+    said += refused ? sprintf(said, "refused %d", refused) : sprintf(said, "%zu piece%s", n, n == 1 ? "" : "s");
+    for (size_t i = 0; !refused && i < n; i++) said += sprintf(said, "%s%zu", i ? ", " : ", ending at ", ends[i]);
+}
+
+/* whether a call has this name, with or without an argument */
+static int is_call(const char *call, const char *name)
+{
+    size_t n = strlen(name);
+    return strncmp(call, name, n) == 0 && (call[n] == 0 || call[n] == ' ');
 }
 
 static void say_uncertain(const char *codes, char *said)
@@ -255,9 +267,10 @@ static void ask(const char *call, char *said)
     else if (strncmp(call, "spell ", 6) == 0) say_spelling(number, said);
     else if (strncmp(call, "find ", 5) == 0) say_found(about, said);
     else if (strncmp(call, "list ", 5) == 0) say_list(all, repeats, said);
-    else if (strcmp(call, "genbank") == 0 || strncmp(call, "genbank ", 8) == 0) say_page(about, said);
-    else if (strcmp(call, "minimal") == 0 || strncmp(call, "minimal ", 8) == 0) say_minimal(about, said);
-    else if (about_codes(call)) say_uncertain(about, said);
+    else if (is_call(call, "genbank")) say_page(about, said);
+    else if (is_call(call, "minimal")) say_minimal(about, said);
+    else if (is_call(call, "pieces")) say_pieces(about, said);
+    else if (is_call(call, "uncertain")) say_uncertain(about, said);
     else fail("a call", call, "none");
 }
 
@@ -279,8 +292,9 @@ static void make(const char *call, char *said)
 static void call_line(char **cells)
 {
     char said[LINE];
+    int refusals_too = is_call(cells[0], "pieces") || is_call(cells[0], "uncertain"); /* they follow from the letters, or from the call */
     calls++;
-    if (strncmp(cells[1], "refused", 7) != 0 || about_codes(cells[0])) { /* what codes are refused follows from the call alone */
+    if (strncmp(cells[1], "refused", 7) != 0 || refusals_too) {
         make(cells[0], said);
         compare(cells[0], cells[1], said);
         judged++;

@@ -1,8 +1,8 @@
 /* Two versions of the library side by side: each call goes to both with the same arguments and equal bytes lent, and the
  * answers and every lent byte afterwards must be equal. Long sittings at both ends with turns and every question, structured
  * words up to full length with both ends asked at every letter, stores damaged in every way, FASTA texts, texts of uncertain bases,
- * lists of repeats and of the minimal unique ones, and pages; nothing is judged here but that both do the same, and that each leaves
- * its scratch as a list must. tests/versions builds the two.
+ * lists of repeats and of the minimal unique ones, pages and the fewest pieces; nothing is judged here but that both do the same, and
+ * that each leaves its scratch as a list must. tests/versions builds the two.
  *
  *     versions ONE.so OTHER.so SEED CALLS [LEFT OUT..]
  *
@@ -192,6 +192,7 @@ static call some_call(call_kind kind, unsigned alphabet)
     if (kind == FIND) c.text_length = some_piece(bytes);
     if (kind == GENBANK) c.out_length = random_below(12) ? MIRROR_GENBANK_SIZE(size) + random_below(3) : random_below((unsigned)MIRROR_GENBANK_SIZE(size));
     if (kind == MINIMAL_UNIQUE) c.out_length = random_below(12) ? MIRROR_MINIMAL_UNIQUE_SIZE(size) + random_below(3) : random_below(2 * (unsigned)size + 1);
+    if (kind == PIECES) c.out_length = random_below(12) ? MIRROR_PIECES_SIZE(size) + random_below(3) : random_below((unsigned)size + 1);
     if (kind == LIST) {
         c.text_length = some_name(bytes);
         c.scratch_length = random_below(12) ? 1 + random_below(random_below(6) ? 3 : 4 * (unsigned)size + 1) : 0; /* as make_list counts them */
@@ -200,11 +201,11 @@ static call some_call(call_kind kind, unsigned alphabet)
     return c;
 }
 
-/* spelling, listing and printing again, into as many bytes as they wrote and into one fewer */
+/* what was written again, into as many bytes as it took and into one fewer */
 static void tighten(call *c, uint64_t answer)
 {
-    size_t first = answer >> 32 & 0xffff, wrote = c->kind == MINIMAL_UNIQUE ? MIRROR_MINIMAL_UNIQUE_SIZE(first) : first;
-    if ((answer & 0xff) != 0 || (c->kind != SPELL && c->kind != LIST && c->kind != GENBANK && c->kind != MINIMAL_UNIQUE)) return;
+    size_t wrote = call_wrote(c->kind, answer);
+    if ((answer & 0xff) != 0 || !call_writes(c->kind)) return;
     c->out_length = wrote;
     make(c);
     if (wrote == 0) return;
@@ -338,11 +339,14 @@ static unsigned char letter_of(unsigned word, unsigned reading, size_t i)
     return (unsigned char)"AC"[second];
 }
 
-/* either list, or the page */
-static void ask_written(call_kind kind)
+/* the lists, the page and the pieces, which are the last kinds, each asked once in so many times */
+static void ask_written(unsigned often)
 {
-    call c = some_call(kind, 4);
-    tighten(&c, make(&c));
+    for (call_kind kind = LIST; kind < CALL_KINDS; kind++) {
+        if (random_below(often) != 0) continue;
+        call c = some_call(kind, 4);
+        tighten(&c, make(&c));
+    }
 }
 
 /* all places, and how often the repeats of some rows stand */
@@ -356,8 +360,8 @@ static void ask_places(void)
     }
 }
 
-/* an addition or a removal at the right (0), at the left (1) or at either end (2), then what stands at both and, now and then, the
- * lists, the page and places */
+/* an addition or a removal at the right (0), at the left (1) or at either end (2), then what stands at both and, now and then, what is
+ * written and places */
 static void change_at(unsigned ends, call_kind at_left, uint64_t letter)
 {
     unsigned right = ends == 2 ? random_below(2) : ends == 0;
@@ -367,13 +371,11 @@ static void change_at(unsigned ends, call_kind at_left, uint64_t letter)
         call asked = {kind, 0, NULL, 0, 0, 0};
         make(&asked);
     }
-    if (random_below(16) == 0) ask_written(LIST);
-    if (random_below(16) == 0) ask_written(GENBANK);
-    if (random_below(16) == 0) ask_written(MINIMAL_UNIQUE);
+    ask_written(16);
     if (random_below(16) == 0) ask_places();
 }
 
-/* a word of n letters joins and is taken away again, and where it is longest it is listed, printed, counted and damaged in every
+/* a word of n letters joins and is taken away again, and where it is longest it is listed, printed, cut, counted and damaged in every
  * way */
 static void word_sitting(size_t n)
 {
@@ -381,9 +383,7 @@ static void word_sitting(size_t n)
     fill(MIRROR_STORE_SIZE(n) + random_below(EXTRA));
     if (!open_both(reading, n)) return;
     for (size_t i = 0; i < n && total < budget; i++) change_at(joined, ADD_LEFT, letter_of(word, reading, i));
-    ask_written(LIST);
-    ask_written(GENBANK);
-    ask_written(MINIMAL_UNIQUE);
+    ask_written(1);
     ask_places();
     if (!stores_apart) spoil_in_every_way();
     for (size_t i = 0; i < n && total < budget; i++) change_at(taken, REMOVE_LEFT, 0);
