@@ -1,14 +1,15 @@
 /* The benchmark: the library beside its C twin, in one run, on five words and four sizes in either reading, inverted
  * records beside plain ones, turns, frequency, occurrences, genbank, the minimal unique palindromes and the longest length beside
- * length, removals and the longest at an end beside additions, finding a piece of a million letters beside testing them, and the
- * two lengths of texts of uncertain bases.
+ * length, removals and the longest at an end beside additions, finding a piece of a million letters beside testing them, the two
+ * lengths of texts of uncertain bases, and the fewest pieces beside length on six words, with how their cost grows.
  *
  * Prints ratios, library over twin, since times of one machine say little; a ratio above the limit is marked with !.
  * The argument names the file that gets the drawing of growth. Ends with 1 if a tested call at 1,000 letters, a fill or
  * reading FASTA is above its limit, or if at 1,000 letters an inverted record beside a plain one, a turn, frequency,
  * occurrences, genbank, the minimal unique palindromes or the longest length beside length, or a removal or the longest at an end
  * beside an addition, takes longer than it may, or a piece of a million letters that breaks at its first pair longer than the
- * test of its letters, or the two lengths of 1,024 codes longer than they may. */
+ * test of its letters, or the two lengths of 1,024 codes longer than they may, or if the fewest pieces take longer beside length or
+ * grow more than they may. */
 #include <math.h>
 
 #include "calls.h"
@@ -76,12 +77,15 @@ static int against(const char *name, double limit, const struct pair times[WORDS
 }
 
 /* Whether a call is timed on a word in a reading. The words that are made for the other reading are for turns, and for
- * length beside them: some have few rows or none, which cost least to test, while a turn brings in as many as letters. */
+ * length beside them: some have few rows or none, which cost least to test, while a turn brings in as many as letters. GTA..A is for
+ * pieces, and for length beside them. */
 static bool timed(int call, int word, enum reading reading)
 {
     if (word_reading(word) != (int)reading)
         return word < BOTH_WORDS && (is_turn(call) || call == CALL_LENGTH);
-    return !opens_otherwise(call, reading);
+    if (word == GTA)
+        return call == CALL_PIECES || call == CALL_LENGTH;
+    return !opens_otherwise(call, reading) && works_on(call, reading);
 }
 
 /* Times every call on every word in rounds, so that no pair has the machine's bad moment alone. */
@@ -203,7 +207,7 @@ static int rows_alike(void)
 
 /* Inverted records of 1,000 letters beside plain ones with as many rows, in the library and in the twin; how many ratios
  * of the library are above the limit. The records are those that measure_calls met last. Turns are left out: what they
- * cost hangs on the rows of the other reading, which are not alike. */
+ * cost hangs on the rows of the other reading, which are not alike; and so are pieces, which are of plain records. */
 static int inverted_beside_plain(void)
 {
     printf("\nInverted records beside plain ones of as many letters and rows: time of the one over that of the other, in the "
@@ -214,7 +218,7 @@ static int inverted_beside_plain(void)
     heading("1000 letters, inverted", INVERTED);
     int above = rows_alike();
     for (int c = CALL_OPEN_INVERTED; c < CALLS; c++) {
-        if (is_turn(c))
+        if (is_turn(c) || !works_on(c, INVERTED))
             continue;
         struct pair plain[WORDS];
         for (int w = 0; w < WORDS; w++)
@@ -406,11 +410,42 @@ static void growth_line(int call, double us[WORDS][MOST_POINTS])
     puts("");
 }
 
-/* Prints how the cost of the addition, of the test and of the counts by place grows, and draws that of the first two against n. */
-static void growth(FILE *out)
+/* What the fewest pieces may take beside length on a word. */
+static double pieces_limit(int word) { return word == FIBONACCI ? PIECES_FIBONACCI_LIMIT : PIECES_LIMIT; }
+
+/* The fewest pieces of a word: their times, those over the twin's and over length's, and how they grow; how many of the last two are
+ * above their limits. The ratio to the twin is counted among those of the tested calls, but for GTA..A. */
+static int pieces_line(int word, double us[MOST_POINTS])
 {
-    static struct panel panels[2] = {{.title = "add right, tested (microseconds)", .points = POINTS},
-                                     {.title = "the test alone (microseconds)", .points = POINTS}};
+    struct pair times = least[CALL_PIECES][PLAIN][word], length = least[CALL_LENGTH][PLAIN][word];
+    double ratio = times.library / times.twin, over = times.library / length.library, limit = pieces_limit(word);
+    measure_growth(CALL_PIECES, word, us);
+    double grown = us[POINTS - 1] / us[0];
+    printf("  %-24s%8.1f%8.1f%8.2f%s%9.2f%s%8.2f%10.1f%s\n", word_names[word], times.library, times.twin, ratio,
+           mark(ratio, RATIO_LIMIT), over, mark(over, limit), times.twin / length.twin, grown, mark(grown, PIECES_GROWTH_LIMIT));
+    return (over > limit) + (grown > PIECES_GROWTH_LIMIT) + (word == GTA && ratio > RATIO_LIMIT);
+}
+
+/* The fewest pieces on six words; how many figures are above their limits. The times are those that measure_calls met last. */
+static int fewest_pieces(struct panel *to)
+{
+    int above = 0;
+    printf("\nThe fewest pieces: microseconds of the library and of the twin and their ratio, these over length's on the same letters, in "
+           "the library and in the twin, and the library's over those at 125 letters; ! where above %.1f, %.1f, on the Fibonacci word "
+           "%.1f, and %.1f\n", RATIO_LIMIT, PIECES_LIMIT, PIECES_FIBONACCI_LIMIT, PIECES_GROWTH_LIMIT);
+    printf("\n%-26s%8s%8s%8s%18s%11s\n", "1000 letters, plain", "library", "twin", "ratio", "over length", "growth");
+    for (int w = 0; w < CUT_WORDS; w++)
+        above += pieces_line(cut_word(w), to->at[w]);
+    return above;
+}
+
+/* Prints how the cost of the addition, of the test, of the counts by place and of the fewest pieces grows, and draws that of the
+ * first two and of the last against n; how many figures of the pieces are above their limits. */
+static int growth(FILE *out)
+{
+    static struct panel panels[3] = {{.title = "add right, tested (microseconds)", .words = WORDS, .points = POINTS},
+                                     {.title = "the test alone (microseconds)", .words = WORDS, .points = POINTS},
+                                     {.title = "the fewest pieces (microseconds)", .words = CUT_WORDS, .points = POINTS}};
     static const int drawn[2] = {CALL_ADD_RIGHT, TEST_ALONE};
     static double not_drawn[WORDS][MOST_POINTS];
     puts("\nCost at 1,000 letters over cost at 125: 8 times the letters, 6.9 times the bytes of the store");
@@ -419,7 +454,9 @@ static void growth(FILE *out)
         growth_line(drawn[p], panels[p].at);
     for (int call = CALL_FREQUENCY; call <= CALL_OCCURRENCES; call++)
         growth_line(call, not_drawn);
-    draw(out, panels, 2);
+    int above = fewest_pieces(&panels[2]);
+    draw(out, panels, 3);
+    return above;
 }
 
 /* The list against n. To find out its length takes a reading of the letters for each 344 repeats, so that the cost for a letter
@@ -468,7 +505,7 @@ int main(int count, char **arguments)
     above += without_a_test();
     above += long_pieces();
     above += uncertain_texts();
-    growth(out);
+    above += growth(out);
     list_growth();
     fclose(out);
     printf("\n%d figures above their limit at 1,000 letters, or 1,024 codes\n", above);

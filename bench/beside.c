@@ -160,8 +160,11 @@ static bool in_both(int call)
 /* How many readings both libraries have: the first version opened plain records alone. */
 static int readings(void) { return in_both(CALL_OPEN_INVERTED) ? 2 : 1; }
 
-/* Whether a call is timed on the words of a reading: its own opening, and what takes no record, once. */
-static bool timed(int call, int reading) { return in_both(call) && !opens_otherwise(call, reading) && !(call >= CALLS && reading); }
+/* Whether a call is timed on the words of a reading: its own opening, pieces where it cuts, and what takes no record, once. */
+static bool timed(int call, int reading)
+{
+    return in_both(call) && !opens_otherwise(call, reading) && works_on(call, reading) && !(call >= CALLS && reading);
+}
 
 /* One line for a call: microseconds and ratio on each word of a reading, and the ratio over all five. */
 static double print_call(int call, int reading, int64_t cost)

@@ -40,6 +40,7 @@ BOTH(spell, (s->store, s->length, s->row, s->out, s->out_length))
 BOTH(list, (s->store, s->length, NAME, s->scratch, s->scratch_length, s->out, s->out_length))
 BOTH(genbank, (s->store, s->length, s->out, s->out_length))
 BOTH(minimal_unique, (s->store, s->length, s->out, s->out_length))
+BOTH(pieces, (s->store, s->length, s->out, s->out_length))
 
 #define FIND(id, call) \
     BOTH_AS(id, find, (s->store, s->length, s->pieces[call - CALL_FIND].letters, s->pieces[call - CALL_FIND].length))
@@ -86,6 +87,7 @@ const struct call calls[PAIRS] = {
     [CALL_LIST] = CALL(list, false),
     [CALL_GENBANK] = CALL(genbank, false),
     [CALL_MINIMAL_UNIQUE] = CALL(minimal_unique, false),
+    [CALL_PIECES] = CALL(pieces, false),
     [CALL_SPELL_BY_LOOP] = {"spell, twin loops", false, library_spell, spell_by_loop},
 };
 

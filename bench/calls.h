@@ -47,6 +47,7 @@ enum {
     CALL_LIST,
     CALL_GENBANK,
     CALL_MINIMAL_UNIQUE,
+    CALL_PIECES,
     CALLS,
     CALL_SPELL_BY_LOOP = CALLS,
     PAIRS,
@@ -89,6 +90,9 @@ static inline bool is_turn(int call) { return call == CALL_TURN_PLAIN || call ==
 static inline bool is_frequency(int call) { return call == CALL_FREQUENCY || call == CALL_FREQUENCY_OFTEN; }
 
 static inline bool is_find(int call) { return call >= CALL_FIND && call < CALL_FIND + FINDS; }
+
+/* Whether a call is carried out on records of a reading, 0 or 1: inverted ones are not cut into pieces. */
+static inline bool works_on(int call, int reading) { return call != CALL_PIECES || reading == 0; }
 
 /* A piece of n letters that reads alike, but for the middle letter of an odd one in an inverted record. In its centre a G faces
  * its partner, which is so in none of the words but random DNA: a search from the centre outwards would end there at once, and

@@ -2,25 +2,23 @@
 #include "draw.h"
 
 enum { WIDE = 360, HIGH = 260, LEFT_MARGIN = 46, TOP = 34, BELOW = 40, KEY = 110 };
-static const char *const colours[WORDS] = {"#1b6ca8", "#c0392b", "#27864b", "#8e44ad", "#b9770e"};
+static const char *const colours[CUT_WORDS] = {"#1b6ca8", "#c0392b", "#27864b", "#8e44ad", "#b9770e", "#7f8c8d"};
 
-static bool any_bound(const struct panel *panels, int count)
-{
-    for (int p = 0; p < count; p++)
-        if (panels[p].bound)
-            return true;
-    return false;
-}
+static double bound_at(const struct bound *bound, int n) { return bound->name ? bound->each * n - bound->less : 0; }
 
-/* The next number above every point that four parts divide evenly. */
+/* The first number that four parts divide evenly and no point lies above. */
 static double top_of(const struct panel *panels, int count)
 {
-    double most = any_bound(panels, count) ? 2 * DRAWN - 1 : 0;
-    for (int p = 0; p < count; p++)
-        for (int w = 0; w < WORDS; w++)
+    double most = 0, top = 0;
+    for (int p = 0; p < count; p++) {
+        most = bound_at(&panels[p].bound, DRAWN) > most ? bound_at(&panels[p].bound, DRAWN) : most;
+        for (int w = 0; w < panels[p].words; w++)
             for (int i = 0; i < panels[p].points; i++)
                 most = panels[p].at[w][i] > most ? panels[p].at[w][i] : most;
-    return 4 * (double)(int)(most / 4 + 1);
+    }
+    while (top < most)
+        top += 4;
+    return top;
 }
 
 static double across(double n) { return LEFT_MARGIN + n / DRAWN * (WIDE - LEFT_MARGIN - 14); }
@@ -45,30 +43,35 @@ static void axes(FILE *out, double top)
     text(out, across(DRAWN / 2.0), TOP + HIGH + 32, "middle", "letters");
 }
 
+/* The line of GTA..A has gaps, since that of all-A may lie below it. */
+static const char *gaps(int w) { return w < WORDS ? "" : " stroke-dasharray=\"6 6\""; }
+
 static void lines(FILE *out, const struct panel *panel, double top)
 {
-    for (int w = 0; w < WORDS; w++) {
-        fprintf(out, "<polyline fill=\"none\" stroke=\"%s\" stroke-width=\"1.6\" points=\"", colours[w]);
+    for (int w = 0; w < panel->words; w++) {
+        fprintf(out, "<polyline fill=\"none\" stroke=\"%s\" stroke-width=\"1.6\"%s points=\"", colours[w], gaps(w));
         for (int i = 0; i < panel->points; i++)
             fprintf(out, "%.1f,%.1f ", across((i + 1.0) * DRAWN / panel->points), down(panel->at[w][i], top));
         fprintf(out, "\"/>\n");
     }
-    if (panel->bound)
-        fprintf(out, "<path d=\"M%.1f %.1fL%.1f %.1f\" stroke=\"black\" stroke-dasharray=\"5 3\"/>\n", across(1), down(1, top), across(DRAWN),
-                down(2 * DRAWN - 1, top));
+    if (panel->bound.name)
+        fprintf(out, "<path d=\"M%.1f %.1fL%.1f %.1f\" stroke=\"black\" stroke-dasharray=\"5 3\"/>\n", across(1),
+                down(bound_at(&panel->bound, 1), top), across(DRAWN), down(bound_at(&panel->bound, DRAWN), top));
 }
 
-static void key(FILE *out, bool bound)
+/* The key stands beside the last panel, which has every word and the bound. */
+static void key(FILE *out, const struct panel *last)
 {
-    for (int w = 0; w < WORDS; w++) {
+    int below = TOP + 20 + 20 * last->words;
+    for (int w = 0; w < last->words; w++) {
         int y = TOP + 20 + 20 * w;
-        fprintf(out, "<path d=\"M0 %dH20\" stroke=\"%s\" stroke-width=\"3\"/>\n", y, colours[w]);
-        text(out, 26, y + 4, "start", word_names[w]);
+        fprintf(out, "<path d=\"M0 %dH20\" stroke=\"%s\" stroke-width=\"3\"%s/>\n", y, colours[w], gaps(w));
+        text(out, 26, y + 4, "start", word_names[cut_word(w)]);
     }
-    if (!bound)
+    if (!last->bound.name)
         return;
-    fprintf(out, "<path d=\"M0 %dH20\" stroke=\"black\" stroke-dasharray=\"5 3\"/>\n", TOP + 20 + 20 * WORDS);
-    text(out, 26, TOP + 24 + 20 * WORDS, "start", "2n - 1");
+    fprintf(out, "<path d=\"M0 %dH20\" stroke=\"black\" stroke-dasharray=\"5 3\"/>\n", below);
+    text(out, 26, below + 4, "start", last->bound.name);
 }
 
 void draw(FILE *out, const struct panel *panels, int count)
@@ -85,6 +88,6 @@ void draw(FILE *out, const struct panel *panels, int count)
         fprintf(out, "</g>\n");
     }
     fprintf(out, "<g transform=\"translate(%d 0)\">\n", count * WIDE);
-    key(out, any_bound(panels, count));
+    key(out, &panels[count - 1]);
     fprintf(out, "</g>\n</svg>\n");
 }

@@ -1,10 +1,11 @@
 /* Whether the twin does the library's work: a benchmark of two programs that answer differently is worthless.
  *
  * Every call on every word in either reading, pieces to find that are repeats, nearly are, read alike and are absent or are
- * longer than the record, frequencies of every row and of numbers that are none, lists with scratch about the need, pages and
- * minimal unique palindromes with room about the need, long random sittings from both ends, some with turns, full records of every
- * word taken away letter by letter, and damaged stores, in some of which a carried number alone is untrue, go through both, and
- * every answer and every lent byte must agree. Prints how many calls were compared, and ends with 1 at the first difference. */
+ * longer than the record, frequencies of every row and of numbers that are none, lists with scratch about the need, pages,
+ * minimal unique palindromes and the fewest pieces with room about the need, long random sittings from both ends, some with turns,
+ * full records of every word taken away letter by letter, and damaged stores, in some of which a carried number alone is untrue, go
+ * through both, and every answer and every lent byte must agree. Prints how many calls were compared, and ends with 1 at the first
+ * difference. */
 #include <stdio.h>
 #include <stdlib.h>
 #include <string.h>
@@ -74,18 +75,22 @@ static void compare_damaged(const char *where)
     compare(&calls[CALL_LONGEST_LENGTH], where);
     compare_ends(where);
     compare_counts(where);
-    compare(&calls[CALL_GENBANK], where);
-    compare(&calls[CALL_MINIMAL_UNIQUE], where);
+    for (int i = CALL_GENBANK; i <= CALL_PIECES; i++)
+        compare(&calls[i], where);
     compare(&calls[CALL_REMOVE_LEFT], where);
     compare(&calls[CALL_REMOVE_RIGHT], where);
     compare_turns(where);
 }
 
-/* How many bytes a call that writes has written, by its answer: the minimal unique palindromes take four each. */
-static size_t written(int call, uint64_t told) { return (size_t)mirror_first(told) * (call == CALL_MINIMAL_UNIQUE ? 4 : 1); }
+/* How many bytes a call that writes has written, by its answer: a minimal unique palindrome takes four, and the end of a piece
+ * two. */
+static size_t written(int call, uint64_t told)
+{
+    return (size_t)mirror_first(told) * (call == CALL_MINIMAL_UNIQUE ? 4 : call == CALL_PIECES ? 2 : 1);
+}
 
-/* Spelling, listing, printing and the minimal unique palindromes into a buffer that just fits, and into one that is a byte
- * short. */
+/* Spelling, listing, printing, the minimal unique palindromes and the fewest pieces into a buffer that just fits, and into one that
+ * is a byte short. */
 static void tight(const struct sitting *s)
 {
     for (int i = CALL_SPELL; i < PAIRS; i++) {
@@ -336,33 +341,37 @@ static void all_pages(enum reading reading)
             pages(word, reading, sizes[i]);
 }
 
-/* The minimal unique palindromes of a record of n letters, with no room, with a byte less than they need, with just enough, and
- * with one and three more. The buffer is painted, so that it shows what is written behind them, or by a refusal. */
-static void minimal_unique(int word, enum reading reading, size_t n)
+/* A call that writes places of a record of n letters, with no room, with a byte less than they need, with just enough, and with one
+ * and three more. The buffer is painted, so that it shows what is written behind them, or by a refusal. An inverted record is not cut
+ * into pieces, whatever the room. */
+static void places(int call, int word, enum reading reading, size_t n)
 {
     static struct sitting s;
     seat(&s, word, reading, n, roomy(n));
     memset(s.out, OUT_PAINT, sizeof s.out);
     here = there = s;
-    uint64_t told = compare(&calls[CALL_MINIMAL_UNIQUE], "a large buffer");
-    size_t need = written(CALL_MINIMAL_UNIQUE, told), lent[] = {0, need == 0 ? 0 : need - 1, need, need + 1, need + 3};
-    for (size_t i = 0; i < sizeof lent / sizeof *lent; i++) {
+    uint64_t told = compare(&calls[call], "a large buffer");
+    size_t need = written(call, told), lent[] = {0, need == 0 ? 0 : need - 1, need, need + 1, need + 3};
+    bool right = mirror_refusal(told) == (works_on(call, (int)reading) ? 0 : 14);
+    for (size_t i = 0; right && i < sizeof lent / sizeof *lent; i++) {
         here = there = s;
         here.out_length = there.out_length = lent[i];
-        if (compare(&calls[CALL_MINIMAL_UNIQUE], "room about the need") == (lent[i] < need ? 9 : told))
-            continue;
-        printf("bench/same: minimal_unique of %zu letters with room for %zu bytes\n", n, lent[i]);
-        exit(1);
+        right = compare(&calls[call], "room about the need") == (lent[i] < need ? 9 : told);
     }
+    if (right)
+        return;
+    printf("bench/same: %s of %zu letters, with room about the need\n", calls[call].name, n);
+    exit(1);
 }
 
-/* Minimal unique palindromes of every word. */
-static void all_minimal_unique(enum reading reading)
+/* Minimal unique palindromes and the fewest pieces of every word. */
+static void all_places(enum reading reading)
 {
     static const size_t sizes[] = {0, 1, 2, 3, 124, 125, 126, 1000, 1023, 1024};
     for (int word = 0; word < ALL_WORDS; word++)
         for (size_t i = 0; i < sizeof sizes / sizeof *sizes; i++)
-            minimal_unique(word, reading, sizes[i]);
+            for (int call = CALL_MINIMAL_UNIQUE; call <= CALL_PIECES; call++)
+                places(call, word, reading, sizes[i]);
 }
 
 /* The inputs that the benchmark times, and the largest records; each word in both readings, since one that was made for
@@ -441,16 +450,16 @@ static void sitting(uint32_t seed, enum reading reading, size_t capacity, const 
 }
 
 /* A full record of a word taken away at either end by chance, with both ends asked, the page printed and the minimal unique
- * palindromes told at every letter, and the counts by place and a list at every eighth: what is removed leaves ranks to other
- * rows, so that these come in no order. */
+ * palindromes and the fewest pieces told at every letter, and the counts by place and a list at every eighth: what is removed
+ * leaves ranks to other rows, so that these come in no order. */
 static void taken_away(uint32_t seed, int word, enum reading reading)
 {
     seat(&here, word, reading, CAPACITY_MOST, CAPACITY_MOST);
     there = here;
     while (size_of(here.store) > 0) {
         compare_ends(word_names[word]);
-        compare(&calls[CALL_GENBANK], word_names[word]);
-        compare(&calls[CALL_MINIMAL_UNIQUE], word_names[word]);
+        for (int i = CALL_GENBANK; i <= CALL_PIECES; i++)
+            compare(&calls[i], word_names[word]);
         if (size_of(here.store) % 8 == 0) {
             here.often = there.often = draw_row(seed >> 8);
             compare_counts(word_names[word]);
@@ -544,7 +553,7 @@ int main(void)
         all_finds(reading);
         all_frequencies(reading);
         all_pages(reading);
-        all_minimal_unique(reading);
+        all_places(reading);
         for (int word = 0; word < ALL_WORDS; word++) {
             lists(word, reading);
             taken_away((uint32_t)word + 1, word, reading);

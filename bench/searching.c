@@ -40,7 +40,8 @@ static void print_sums(void)
 
 int main(int count, char **arguments)
 {
-    static struct panel panel = {.title = "passed in the searches of all additions", .points = MOST_POINTS, .bound = true};
+    static struct panel panel = {.title = "passed in the searches of all additions", .words = WORDS, .points = MOST_POINTS,
+                                 .bound = {"2n - 1", 2, 1}};
     FILE *out = count == 2 ? fopen(arguments[1], "w") : NULL;
     if (!out) {
         fprintf(stderr, "usage: searching DRAWING.svg\n");

@@ -2,8 +2,8 @@
  * changed is looked up afterwards; a call of an empty function is taken off. The records are full ones of 1,024
  * letters in either reading, a letter less for additions, where spelling and finding have the longest palindrome there is,
  * the list the most lines, genbank the longest page and a turn the most letters to set aside. What the list takes beyond length,
- * which is the test and one read, is told too. Ends with 1 if a call takes more than 64 KiB, frequency, occurrences or
- * minimal_unique more than 8, or uncertain more than 4. */
+ * which is the test and one read, is told too. Ends with 1 if a call takes more than 64 KiB, pieces more than 12, frequency,
+ * occurrences or minimal_unique more than 8, or uncertain more than 4. */
 #include <stdio.h>
 #include <string.h>
 #include <ucontext.h>
@@ -13,7 +13,8 @@
 #include "codes.h"
 #include "words.h"
 
-enum { STACK = 1 << 20, PAINT = 0xa5, LIMIT = 64 * 1024, COUNTS_LIMIT = 8 * 1024, CODES_LIMIT = 4 * 1024 };
+enum { STACK = 1 << 20, PAINT = 0xa5 };
+enum { LIMIT = 64 * 1024, PIECES_LIMIT = 12 * 1024, COUNTS_LIMIT = 8 * 1024, CODES_LIMIT = 4 * 1024 };
 
 static uint8_t stack[STACK];
 static struct sitting s, before;
@@ -78,11 +79,11 @@ static size_t taken_without_store(uint64_t (*call)(struct sitting *))
     return taken_by(call);
 }
 
-/* The most that a call takes over the words; 0 where it was refused. */
+/* The most that a call takes over the words that it works on; 0 where it was refused. */
 static size_t most_of(int call, int *word)
 {
     size_t most = 0;
-    for (int w = 0; w < BOTH_WORDS; w++) {
+    for (int w = 0; w < BOTH_WORDS && works_on(call, word_reading(w)); w++) {
         bool adds = call == CALL_ADD_LEFT || call == CALL_ADD_RIGHT;
         seat(&s, w, word_reading(w), adds ? CAPACITY_MOST - 1 : CAPACITY_MOST, CAPACITY_MOST);
         before = s;
@@ -101,6 +102,8 @@ static size_t most_of(int call, int *word)
 
 static size_t limit_of(int call)
 {
+    if (call == CALL_PIECES)
+        return PIECES_LIMIT;
     return is_frequency(call) || call == CALL_OCCURRENCES || call == CALL_MINIMAL_UNIQUE ? COUNTS_LIMIT : LIMIT;
 }
 

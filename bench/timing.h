@@ -32,6 +32,12 @@ struct pair {
 #define END_LIMIT 1.2
 #define FIRST_PAIR_LIMIT 1.05
 
+/* The ratio of the fewest pieces to length on the same letters, the one on the Fibonacci word, which has the most series, and that of
+ * their time at 1,000 letters to their time at 125: n log n comes to 11.4, and n times n to 64. */
+#define PIECES_LIMIT 3.5
+#define PIECES_FIBONACCI_LIMIT 5.0
+#define PIECES_GROWTH_LIMIT 12.0
+
 /* The microseconds that the two lengths of 1,024 codes may take on any text, since their work is not linear, on one drawn by chance,
  * and on such texts each of which is new. */
 #define UNCERTAIN_LIMIT 200.0

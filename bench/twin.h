@@ -48,6 +48,7 @@ uint64_t twin_list(const uint8_t *store, size_t length, const uint8_t *identifie
                    uint8_t *scratch, size_t scratch_length, uint8_t *out, size_t out_length);
 uint64_t twin_genbank(const uint8_t *store, size_t length, uint8_t *out, size_t out_length);
 uint64_t twin_minimal_unique(const uint8_t *store, size_t length, uint8_t *out, size_t out_length);
+uint64_t twin_pieces(const uint8_t *store, size_t length, uint8_t *out, size_t out_length);
 
 void bare_open(uint8_t *store, size_t capacity, enum reading reading);
 uint64_t bare_add(uint8_t *store, enum side side, uint8_t letter);

@@ -15,7 +15,10 @@
  *
  * Turns are timed on records of either reading for all of these words but `few`. In the reading that they are not made for,
  * those over A or A and C have no row at all, since no letter meets its partner; (AT)* and Thue-Morse over A and T have 1000
- * and 788, (ATCG)* and the Fibonacci word with partners 4 and 6. */
+ * and 788, (ATCG)* and the Fibonacci word with partners 4 and 6.
+ *
+ * GTA..A is for pieces: at each of its ends as many palindromes end as A stand before it, and none leaves so little to cut that the
+ * others need not be tried. So to try them all, or to stop where nothing can be better, takes n times n steps. */
 #include "words.h"
 
 #include <string.h>
@@ -23,7 +26,7 @@
 #include "cells.h"
 
 const char *const word_names[ALL_WORDS] = {"random", "all-A", "(AC)*", "Fibonacci", "Thue-Morse",
-                                           "random", "(AT)*", "(ATCG)*", "Fibonacci", "Thue-Morse", "few"};
+                                           "random", "(AT)*", "(ATCG)*", "Fibonacci", "Thue-Morse", "few", "GTA..A"};
 
 uint32_t next_random(uint32_t *state)
 {
@@ -72,6 +75,13 @@ static void repeated(const char *period, size_t length, uint8_t *out, size_t n)
         out[i] = (uint8_t)period[i % length];
 }
 
+/* G, T and nothing but A from there on. */
+static void gta(uint8_t *out, size_t n)
+{
+    for (size_t i = 0; i < n; i++)
+        out[i] = i < 2 ? (uint8_t)"GT"[i] : 'A';
+}
+
 /* The Thue-Morse word over two letters, from a place on. */
 static void thue_morse(const char *letters, size_t from, uint8_t *out, size_t n)
 {
@@ -102,6 +112,7 @@ void make_word(int which, uint8_t *out, size_t n)
     case WORDS + FIBONACCI: fibonacci_with_partners(58, out, n); break;
     case WORDS + THUE_MORSE: thue_morse("AT", 64, out, n); break;
     case SPARSE: few_palindromes(out, n); break;
+    case GTA: gta(out, n); break;
     default: random_letters(out, n);
     }
 }

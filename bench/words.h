@@ -5,10 +5,14 @@
 #include <stddef.h>
 #include <stdint.h>
 
-/* First the words of plain records, then in the same order those of inverted ones. Last a plain one that is only there to be
- * timed beside random DNA in an inverted record: see words.c. */
-enum { RANDOM, ALL_A, AC, FIBONACCI, THUE_MORSE, WORDS, BOTH_WORDS = 2 * WORDS, SPARSE = BOTH_WORDS, ALL_WORDS };
+/* First the words of plain records, then in the same order those of inverted ones. Then a plain one that is only there to be
+ * timed beside random DNA in an inverted record, and last one that is only there to be cut into pieces: see words.c. */
+enum { RANDOM, ALL_A, AC, FIBONACCI, THUE_MORSE, WORDS, BOTH_WORDS = 2 * WORDS, SPARSE = BOTH_WORDS, GTA, ALL_WORDS };
 extern const char *const word_names[ALL_WORDS];
+
+/* The words that are cut into pieces: those of plain records, and GTA..A. */
+enum { CUT_WORDS = WORDS + 1 };
+static inline int cut_word(int w) { return w < WORDS ? w : (int)GTA; }
 
 /* The reading that a word is made for: 0 for plain, 1 for inverted. */
 static inline int word_reading(int word) { return word >= WORDS && word < BOTH_WORDS; }
