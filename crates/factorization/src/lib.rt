@@ -140,7 +140,8 @@ fn fill(b: &[u8], lasts: &mut [u16], factors: &mut [u16], memos: &mut [u32]) -> 
     requires { ⌜ (now factors ≡ replicate 1025 0) × (now memos ≡ replicate 1026 0) ⌝ }
     ensures known { λ _. ⌜ Known (now (b .entry)) (sizeIn (now (b .entry)) + 1) (now (factors .exit)) ⌝ }
     ensures starts { λ _. ⌜ LastStarts (now (b .entry)) (sizeIn (now (b .entry))) (now (lasts .exit)) ⌝ }
-    ensures steps { λ r. ⌜ (r ≡ seriesSteps (ruleOf (now (b .entry))) (lettersIn (now (b .entry)))) × (r ≤ sizeIn (now (b .entry)) * mostSeries) ⌝ }
+    ensures steps { λ r. ⌜ r ≡ seriesSteps (ruleOf (now (b .entry))) (lettersIn (now (b .entry))) ⌝ }
+    ensures few { λ r. ⌜ r ≤ sizeIn (now (b .entry)) * mostSeries ⌝ }
 {
     let n = header::size(b);
     let mut k = 0;
@@ -168,7 +169,8 @@ pub fn factorize(b: &[u8], lasts: &mut [u16]) -> Factors
     requires { ⌜ sizeIn (now b) ≤ length (now lasts) ⌝ }
     ensures number { λ r. ⌜ r .number ≡ palindromicLength (ruleOf (now (b .entry))) (lettersIn (now (b .entry))) ⌝ }
     ensures starts { λ _. ⌜ LastStarts (now (b .entry)) (sizeIn (now (b .entry))) (now (lasts .exit)) ⌝ }
-    ensures steps { λ r. ⌜ (r .steps ≡ seriesSteps (ruleOf (now (b .entry))) (lettersIn (now (b .entry)))) × (r .steps ≤ sizeIn (now (b .entry)) * mostSeries) ⌝ }
+    ensures steps { λ r. ⌜ r .steps ≡ seriesSteps (ruleOf (now (b .entry))) (lettersIn (now (b .entry))) ⌝ }
+    ensures few { λ r. ⌜ r .steps ≤ sizeIn (now (b .entry)) * mostSeries ⌝ }
 {
     rows_at_ends(b, lasts);
     let mut factors = [0u16; 1025];

@@ -93,6 +93,7 @@ module _ (σ : ℕ → ℕ) where
       within s c i l ih =
           let t = take (suc i) s in
           let some-t : t ≡ [] → ⊥ = some (omega (arith, length-take (suc i) s)) in
+          let known = palindromicLengths σ s in
           let e : take (suc i) (s ++ (c ∷ [])) ≡ t = take-append-le (suc i) s (c ∷ []) (omega arith) in
           let k : lastStart σ (palindromicLengths σ (s ++ (c ∷ []))) (take (suc i) (s ++ (c ∷ []))) ≡ lastStart σ (palindromicLengths σ s) t =
           ap (lastStart σ (palindromicLengths σ (s ++ (c ∷ [])))) e ∙ start-stays s c t (omega (arith, length-take (suc i) s)) in
@@ -100,7 +101,7 @@ module _ (σ : ℕ → ℕ) where
             k,
             ih,
             lengths-stay s c (suc i) (omega arith),
-            lengths-stay s c (lastStart σ (palindromicLengths σ s) t) (omega (arith, length-take (suc i) s, start-below σ (palindromicLengths σ s) t some-t)),
+            lengths-stay s c (lastStart σ known t) (omega (arith, length-take (suc i) s, start-below σ known t some-t)),
           )
 
       whole : (s : Word) (c i : ℕ) → i ≡ length s → Next (s ++ (c ∷ [])) i
