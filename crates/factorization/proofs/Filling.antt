@@ -26,8 +26,9 @@ use Rattle.store.proofs.Sizes.{letters-length}
 use Rattle.transitions.proofs.Rows.{covers, size-most}
 use Rattle.walk.specs.Replay.{endingIn, Holds}
 use Rattle.end_rows.specs.EndRows.{EndRows}
-use Rattle.factorization.specs.Kept.{reachIn, factorsIn, startIn, Known, Memos, FreshIn, seriesAt, EndsAt, LastStarts, beginOf}
-use Rattle.factorization.proofs.Jumping.{tells}
+use Rattle.last_factor.specs.Kept.{reachIn, factorsIn, startIn, Known, Memos, FreshIn, seriesAt, EndsAt, beginOf}
+use Rattle.factorization.specs.LastStarts.{LastStarts}
+use Rattle.last_factor.proofs.Jumping.{tells}
 
 -- at the right ends from k on the rows still stand
 pub record RowsFrom (b : Word) (k : ℕ) (lasts : Word) : Type 0 where

@@ -17,7 +17,8 @@ use Rattle.decimal.proofs.Stores.{sets-last}
 use Rattle.store.specs.Layout.{sizeIn, readingIn, lettersIn}
 use Rattle.store.specs.Good.{ruleOf, Good}
 use Rattle.store.proofs.Sizes.{letters-length}
-use Rattle.factorization.specs.Kept.{startIn, LastStarts}
+use Rattle.last_factor.specs.Kept.{startIn}
+use Rattle.factorization.specs.LastStarts.{LastStarts}
 use Rattle.factorization.proofs.Filling.{own-partner}
 
 -- where the factor that ends at a place begins, by the list

@@ -11,7 +11,7 @@ use Rattle.store.specs.Good.{ruleOf}
 use Rattle.store.proofs.Sizes.{letters-length}
 use Rattle.transitions.proofs.Rows.{size-most}
 use Rattle.walk.proofs.Stores.{header-fits}
-use Rattle.factorization.specs.Kept.{factorsIn}
+use Rattle.last_factor.specs.Kept.{factorsIn}
 use Rattle.factorization.proofs.factorize.Statement.{statement}
 use Rattle.factorization.proofs.factorize.Tie as tie
 

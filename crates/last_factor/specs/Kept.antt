@@ -1,4 +1,4 @@
--- What the contracts of src/lib.rt say of the numbers of factors, of the choices kept with rows, and of the places at which last factors begin.
+-- What the contracts of src/lib.rt say of the numbers of factors, of the choices kept with rows, and of the place at which a last factor begins.
 use Prim.Native.Nat.{ℕ, _+_, _*_, _/_, _%_, _≤_, _<_}
 use mathlib.Core.Path.{_≡_}
 use mathlib.Core.Bool.{true}
@@ -77,8 +77,3 @@ pub record EndsAt (b : Word) (i row : ℕ) : Type 0 where
   pub high : 2 ≤ row
   pub reaches : reachIn b row ≤ i + 1
   pub small : i ≤ 1024
-
--- for each of the first k right ends the place at which its last factor begins
-pub record LastStarts (b : Word) (k : ℕ) (lasts : Word) : Type 0 where
-  pub long : k ≤ length lasts
-  pub each : (q : ℕ) → q < k → getD lasts q 0 ≡ startIn b (q + 1)

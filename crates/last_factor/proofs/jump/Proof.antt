@@ -1,4 +1,4 @@
--- `factorization::jump` takes up the choice kept with a row's link, where it was made for the same place and the differences are the same, and else
+-- `last_factor::jump` takes up the choice kept with a row's link, where it was made for the same place and the differences are the same, and else
 -- takes the row alone. Assumes nothing.
 use Prim.Native.Nat.{_+_, _-_, _<_}
 use native.Mathlib.Omega.{arith}
@@ -10,11 +10,11 @@ use Rattle.palindromes.specs.Factorization.{better}
 use Rattle.store.specs.Layout.{linkIn, usedIn}
 use Rattle.store.specs.Good.{Good}
 use Rattle.transitions.proofs.Rows.{covers, used-fits, row-below}
-use Rattle.factorization.specs.Kept.{beginOf, nextOf, reachIn, Known, Memos, EndsAt}
-use Rattle.factorization.proofs.Jumping.{cell-fits, link-used, link-shorter, link-present, alone, next-used, last-low, last-high, kept-high, longer}
-use Rattle.factorization.proofs.Jumping.{jump-kept, jump-link}
-use Rattle.factorization.proofs.jump.Statement.{statement}
-use Rattle.factorization.proofs.jump.Tie as tie
+use Rattle.last_factor.specs.Kept.{beginOf, nextOf, reachIn, Known, Memos, EndsAt}
+use Rattle.last_factor.proofs.Jumping.{cell-fits, link-used, link-shorter, link-present, alone, next-used, last-low, last-high, kept-high, longer}
+use Rattle.last_factor.proofs.Jumping.{jump-kept, jump-link}
+use Rattle.last_factor.proofs.jump.Statement.{statement}
+use Rattle.last_factor.proofs.jump.Tie as tie
 
 -- the entry, from behind the reading of the link, and that reading, from behind each later place
 abbrev entry : tie.After-link-of → tie.Start

@@ -14,7 +14,7 @@ use Rattle.eertree.proofs.Rows.{reachOf}
 use Rattle.store.specs.Layout.{cellAt, linkIn, usedIn}
 use Rattle.store.specs.Good.{nodeIn, Good}
 use Rattle.transitions.proofs.Rows.{covers, length-row, row-below, used-fits}
-use Rattle.factorization.specs.Kept.{reachIn, factorsIn, KeptIn, Known, Memos, EndsAt, nextIn, beginOf, nextOf, placeOf}
+use Rattle.last_factor.specs.Kept.{reachIn, factorsIn, KeptIn, Known, Memos, EndsAt, nextIn, beginOf, nextOf, placeOf}
 
 -- of two known places the better is the better
 pub better-known : {b : Word} {i : ℕ} {factors : Word} → Known b i factors → (a q : ℕ) → a < i → q < i

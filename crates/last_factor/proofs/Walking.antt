@@ -26,9 +26,9 @@ use Rattle.store.specs.Good.{ruleOf, nodeIn, Good}
 use Rattle.store.proofs.Sizes.{letters-length}
 use Rattle.transitions.proofs.Rows.{covers, row-below}
 use Rattle.walk.specs.Replay.{Holds}
-use Rattle.factorization.specs.Kept.{reachIn, factorsIn, startIn, KeptIn, Known, Memos, EndsAt, wordIn, nextIn, FreshIn, WalkedIn, seriesAt}
-use Rattle.factorization.specs.Kept.{memo, beginOf, nextOf, placeOf}
-use Rattle.factorization.proofs.Jumping.{better-known, tells, PassesIn, passes}
+use Rattle.last_factor.specs.Kept.{reachIn, factorsIn, startIn, KeptIn, Known, Memos, EndsAt, wordIn, nextIn, FreshIn, WalkedIn, seriesAt}
+use Rattle.last_factor.specs.Kept.{memo, beginOf, nextOf, placeOf}
+use Rattle.last_factor.proofs.Jumping.{better-known, tells, PassesIn, passes}
 
 -- the three numbers of a memo
 pub memo-begin : (begin next place : ℕ) → begin < 2048 → next < 2048 → beginOf (memo begin next place) ≡ begin

@@ -1,11 +1,11 @@
--- `factorization::better_of` compares two places. Assumes nothing.
+-- `last_factor::better_of` compares two places. Assumes nothing.
 use native.Mathlib.Omega.{arith}
 use mathlib.Core.Path.{sym}
 use lib.ListN.{getD}
 use borrow.Author.Needs.{needs}
 use Rattle.palindromes.proofs.Choice.{better-first, better-second}
-use Rattle.factorization.proofs.better_of.Statement.{statement}
-use Rattle.factorization.proofs.better_of.Tie as tie
+use Rattle.last_factor.proofs.better_of.Statement.{statement}
+use Rattle.last_factor.proofs.better_of.Tie as tie
 
 returns : tie.Need-returns
 returns c = let a = c .before .before .before .args in sym (better-second (λ p. getD (a .factors .now) p 0) (a .a) (a .q) (omega (arith, c .if1 .taken)))

@@ -1,4 +1,4 @@
--- `factorization::last_factor` walks from series to series. The loop's invariant is `Turn`, the measure the number of series that are left: it turns
+-- `last_factor::last_factor` walks from series to series. The loop's invariant is `Turn`, the measure the number of series that are left: it turns
 -- once for each series. Assumes nothing.
 use Prim.Native.Nat.{_+_, _-_, _≤_, _<_}
 use native.Mathlib.Omega.{arith}
@@ -6,12 +6,12 @@ use mathlib.Core.Path.{_≡_, ap, _∙_}
 use Rattle.series.specs.Series.{series}
 use Rattle.store.specs.Good.{ruleOf, Good}
 use Rattle.transitions.proofs.Rows.{row-below}
-use Rattle.factorization.specs.Kept.{beginOf, nextOf, placeOf, wordIn, Known}
-use Rattle.factorization.proofs.Jumping.{cell-fits, PassesIn}
-use Rattle.factorization.proofs.Walking.{memo-begin, memo-next, memo-place, Turn, turn-start, turn-ends, turn-done, turn-passes, turn-fresh}
-use Rattle.factorization.proofs.Walking.{turn-count, turn-few, turn-one, turn-next}
-use Rattle.factorization.proofs.last_factor.Statement.{statement}
-use Rattle.factorization.proofs.last_factor.Tie as tie
+use Rattle.last_factor.specs.Kept.{beginOf, nextOf, placeOf, wordIn, Known}
+use Rattle.last_factor.proofs.Jumping.{cell-fits, PassesIn}
+use Rattle.last_factor.proofs.Walking.{memo-begin, memo-next, memo-place, Turn, turn-start, turn-ends, turn-done, turn-passes, turn-fresh}
+use Rattle.last_factor.proofs.Walking.{turn-count, turn-few, turn-one, turn-next}
+use Rattle.last_factor.proofs.last_factor.Statement.{statement}
+use Rattle.last_factor.proofs.last_factor.Tie as tie
 
 abbrev Inv-loop : tie.InvT-loop
 Inv-loop b i longest factors memos₀ row₀ start₀ turns₀ memos row start turns = Turn b i memos row start turns

@@ -1,8 +1,8 @@
--- `factorization::place_of` reads the chosen place of what is kept with a row. Assumes nothing.
+-- `last_factor::place_of` reads the chosen place of what is kept with a row. Assumes nothing.
 use native.Mathlib.Omega.{arith}
 use borrow.Author.Needs.{needs}
-use Rattle.factorization.proofs.place_of.Statement.{statement}
-use Rattle.factorization.proofs.place_of.Tie as tie
+use Rattle.last_factor.proofs.place_of.Statement.{statement}
+use Rattle.last_factor.proofs.place_of.Tie as tie
 
 pub place-of-spec : {M : Type 1} → statement M
 place-of-spec =
