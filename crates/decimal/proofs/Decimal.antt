@@ -7,13 +7,14 @@ use native.Mathlib.Omega.{arith}
 use mathlib.Core.Path.{_≡_, refl, sym, ap, _∙_}
 use mathlib.Core.Bool.{Bool, true, false}
 use mathlib.Core.Logic.{⊎-elim}
-use mathlib.Core.List.{[], _∷_, _++_, append-assoc, head-eq-of-cons-eq, tail-eq-of-cons-eq, List·Memᴰ, List·Memᴰ·eq-of-singleton, List·Memᴰ·append-cases}
+use mathlib.Core.List.{[], _∷_, _++_, append-assoc, head-eq-of-cons-eq, tail-eq-of-cons-eq, List·Memᴰ, List·Memᴰ·eq-of-singleton}
+use mathlib.Core.List.{List·Memᴰ·append-cases}
 use lib.Dec.{ltb}
 use lib.ListN.{length, length-append}
 use borrow.Author.Tests.{ltb-true, ltb-false, lt-ltb, le-ltb}
 use Rattle.palindromes.specs.Word.{Word}
 use Rattle.palindromes.specs.Bed.{digitsBefore, decimal}
-use Rattle.decimal.specs.Digits.{valueFrom, value}
+use Rattle.palindromes.specs.Digits.{valueFrom, value}
 
 -- ---- the digits of a number, last first
 
@@ -41,7 +42,14 @@ digits-in-front zero n t = unfold digitsBefore in refl
 digits-in-front (suc k) n t =
     let d : ℕ = 48 + n % 10 in
     small-or-not n (λ h. cc (one-left k n t h, one-left k n [] h))
-    (λ h. cc (more-left k n t h, more-left k n [] h, digits-in-front k (n / 10) (d ∷ t), digits-in-front k (n / 10) (d ∷ []), append-assoc (digitsBefore k (n / 10) []) (d ∷ []) t))
+    (λ h. cc (
+      more-left k n t h,
+      more-left k n [] h,
+      digits-in-front k (n / 10) (d ∷ t),
+      digits-in-front k (n / 10) (d ∷ []),
+      append-assoc
+          (digitsBefore k (n / 10) []) (d ∷ []) t,
+    ))
 
 -- any two bounds above the number give the same digits
 same-digits : (k j n : ℕ) (t : Word) → n < k → n < j → digitsBefore k n t ≡ digitsBefore j n t
@@ -103,7 +111,8 @@ at-most-five n h = digits-below 4 n (omega arith)
 pub digit-bytes : (n b : ℕ) → List·Memᴰ b (decimal n) → (48 ≤ b) × (b ≤ 57)
 digit-bytes n b = by-digits (λ n. List·Memᴰ b (decimal n) → (48 ≤ b) × (b ≤ 57))
     (λ n h m. let e : b ≡ 48 + n = List·Memᴰ·eq-of-singleton (rw (decimal-one n h) at m) in omega arith)
-    (λ n h ih m. ⊎-elim ih (λ l. let e : b ≡ 48 + n % 10 = List·Memᴰ·eq-of-singleton l in omega arith) (List·Memᴰ·append-cases (decimal (n / 10)) (rw (decimal-more n h) at m))) n
+    (λ n h ih m. ⊎-elim ih (λ l. let e : b ≡ 48 + n % 10 = List·Memᴰ·eq-of-singleton l in omega arith)
+    (List·Memᴰ·append-cases (decimal (n / 10)) (rw (decimal-more n h) at m))) n
 
 -- ---- what the digits say
 
@@ -136,7 +145,8 @@ first-zero =
     (λ n h w e. omega (arith, head-eq-of-cons-eq (sym (decimal-one n h) ∙ e)))
     (λ n h ih w e. absurd (not-first n h ih w (decimal (n / 10)) refl (sym (decimal-more n h) ∙ e)))
   where
-    not-first : (n : ℕ) → 10 ≤ n → ((w : Word) → decimal (n / 10) ≡ 48 ∷ w → n / 10 ≡ 0) → (w u : Word) → decimal (n / 10) ≡ u → u ++ ((48 + n % 10) ∷ []) ≡ 48 ∷ w → ⊥
+    not-first : (n : ℕ) → 10 ≤ n → ((w : Word) → decimal (n / 10) ≡ 48 ∷ w → n / 10 ≡ 0) → (w u : Word) → decimal (n / 10) ≡ u
+        → u ++ ((48 + n % 10) ∷ []) ≡ 48 ∷ w → ⊥
     not-first n h ih w [] p e = omega (arith, some-digit (n / 10), ap length p)
     not-first n h ih w (x ∷ v) p e = omega (arith, ih v (cc (head-eq-of-cons-eq e)))
 

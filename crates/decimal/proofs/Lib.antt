@@ -1,3 +1,3 @@
--- the laws of specs/Digits.antt and of the decimal digits of the crate palindromes, and of bytes stored one after the other
+-- the laws of the decimal digits of the crate palindromes, and of bytes stored one after the other
 pub mod Decimal
 pub mod Stores

@@ -17,7 +17,7 @@ use Rattle.palindromes.specs.Occurrences.{occurrencesByRow, occurrencesByEnd}
 use Rattle.palindromes.specs.End.{End, atLeft, atRight, letterAt}
 use Rattle.palindromes.specs.Node.{Node, imaginary, spelt, lengthOf, spellingOf}
 use Rattle.palindromes.specs.Refusal.{Question, theLength, theCount, theLongest, theLongestLength, theOccurrences, page, theMinimalUnique, thePieces}
-use Rattle.palindromes.specs.Refusal.{theLongestAt, theLetter, theRow, theFrequency, spell, find, list, Call, opening, add, remove, turn, ask}
+use Rattle.palindromes.specs.Refusal.{theLongestAt, theLetter, theRow, theFrequency, spell, find, list, mark, Call, opening, add, remove, turn, ask}
 use Rattle.palindromes.specs.Refusal.{refusal}
 use Rattle.palindromes.proofs.Tests.{both-true}
 use Rattle.palindromes.proofs.Order.{longest-length-fits, longest-place-is}
@@ -143,6 +143,7 @@ module _ {b : Word} (g : Good b) where
       go false = fits _ (omega arith) (mismatch-small (ruleOf b) p) (omega arith)
   answer-fits (list name) l z =
       fits _ (omega arith) (omega (arith, listing-most (ruleOf b) name (lettersIn b) (list-named b l name z) (omega (arith, few)), few)) (omega arith)
+  answer-fits (mark name sheet) l z = fits _ (omega arith) (omega arith) (omega arith)
 
   -- ---- the changes
 

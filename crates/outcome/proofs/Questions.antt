@@ -17,11 +17,14 @@ use Rattle.palindromes.specs.Node.{spellingOf}
 use Rattle.palindromes.specs.Genbank.{genbank}
 use Rattle.palindromes.specs.Reading.{readingNumber}
 use Rattle.palindromes.specs.Factorization.{palindromicLength, factorEnds, endBytes}
+use Rattle.palindromes.specs.Bed.{isIdentifier}
+use Rattle.palindromes.specs.Sheet.{sheetLines, isSheet}
+use Rattle.palindromes.specs.Marks.{sheetCounts, fullMarks, lowBytes, countsBytes}
 use Rattle.palindromes.specs.Refusal.{Question, page, theMinimalUnique, thePieces, spell, ask, fault, firstFault, faults, questionFaults, refusal}
-use Rattle.palindromes.specs.Refusal.{isFree, spellingLength}
+use Rattle.palindromes.specs.Refusal.{mark, isFree, spellingLength}
 use Rattle.store.specs.Layout.{readingIn, usedIn, lettersIn}
 use Rattle.store.specs.Good.{ruleOf, nodeIn}
-use Rattle.outcome.specs.Reply.{Reply, packed, accepted, answer, answered}
+use Rattle.outcome.specs.Reply.{Reply, packed, accepted, Answer, answer, tells, answered}
 use Rattle.outcome.specs.Outcome.{Lent, Outcome, viewIn, written, answerTo, lentAfter, acceptedOutcome, refusedOutcome, outcome}
 use Rattle.outcome.specs.Promise.{lending, Promise}
 use Rattle.outcome.proofs.Promises.{carried, Answerable}
@@ -69,25 +72,25 @@ spell-allowed r b l a =
 
 -- ---- questions that only a short output refuses
 
--- on the store b such a question answers the number n and writes w at the front of the output
-pub record Writing (q : Question) (n : ℕ) (w b : Word) : Type 0 where
-  pub answers : answerTo q b ≡ answer false 0 n 0
+-- on the store b such a question answers x and writes w at the front of the output
+pub record Writing (q : Question) (x : Answer) (w b : Word) : Type 0 where
+  pub answers : answerTo q b ≡ x
   pub leaves : (l : Lent) → lentAfter q b l ≡ lending (l .scratch) (written w (l .out))
   pub measured : (l : Lent) → refusal (ruleOf b) (viewIn b l) (ask q) ≡ firstFault (fault 9 (ltb (length (l .out)) (length w)) ∷ [])
 
-pub page-writing : (b : Word) → Writing page (length (genbank (lettersIn b))) (genbank (lettersIn b)) b
+pub page-writing : (b : Word) → Writing page (tells (length (genbank (lettersIn b)))) (genbank (lettersIn b)) b
 unfolding answerTo lentAfter refusal faults questionFaults viewIn firstFault fault
 page-writing b = record { answers = refl; leaves = λ l. refl; measured = λ l. refl }
 
 pub minimal-writing : (b : Word)
     → let list = minimalUnique (ruleOf b) (lettersIn b) in
-    Writing theMinimalUnique (length list) (intervalBytes list) b
+    Writing theMinimalUnique (tells (length list)) (intervalBytes list) b
 unfolding answerTo lentAfter refusal faults questionFaults viewIn firstFault fault
 minimal-writing b = record { answers = refl; leaves = λ l. refl; measured = λ l. refl }
 
 -- the pieces of a plain record
 pub pieces-writing : (b : Word) → readingIn b ≡ 0
-    → Writing thePieces (palindromicLength (ruleOf b) (lettersIn b)) (endBytes (factorEnds (ruleOf b) (lettersIn b))) b
+    → Writing thePieces (tells (palindromicLength (ruleOf b) (lettersIn b))) (endBytes (factorEnds (ruleOf b) (lettersIn b))) b
 unfolding answerTo lentAfter refusal faults questionFaults viewIn firstFault fault readingNumber
 pieces-writing b z =
     record {
@@ -98,7 +101,14 @@ pieces-writing b z =
           ap (λ (m : ℕ). firstFault (fault 14 (eqb m 1) ∷ fault 9 short ∷ [])) z;
     }
 
-module _ {q : Question} {n : ℕ} {w b : Word} (f : Writing q n w b) (l : Lent) where
+-- a sheet that is one, marked under an identifier that is one
+pub mark-writing : (b name sheet : Word) → isIdentifier name ≡ true → isSheet (sheetLines sheet) ≡ true
+    → let counts = sheetCounts (ruleOf b) name (lettersIn b) sheet in
+    Writing (mark name sheet) (answer (fullMarks counts) 0 0 0) (countsBytes counts) b
+unfolding answerTo lentAfter refusal faults questionFaults viewIn firstFault fault countsBytes lowBytes
+mark-writing b name sheet h k = record { answers = refl; leaves = λ l. refl; measured = λ l. rw (h, k) refl }
+
+module _ {q : Question} {x : Answer} {w b : Word} (f : Writing q x w b) (l : Lent) where
   pub too-short : length (l .out) < length w → refusal (ruleOf b) (viewIn b l) (ask q) ≡ 9
   unfolding firstFault fault
   too-short h = f .measured l ∙ ap (λ (t : Bool). firstFault (fault 9 t ∷ [])) (lt-ltb (length (l .out)) (length w) h)
@@ -113,10 +123,10 @@ module _ {q : Question} {n : ℕ} {w b : Word} (f : Writing q n w b) (l : Lent) 
 
   -- what it comes to
   abbrev came : Reply → Lent → Outcome
-  came r x = record { reply = r; store = b; lent = x }
+  came r m = record { reply = r; store = b; lent = m }
 
   pub with-room : length w ≤ length (l .out)
-      → outcome (ask q) b l ≡ record { reply = accepted false 0 n 0; store = b; lent = lending (l .scratch) (written w (l .out)) }
+      → outcome (ask q) b l ≡ record { reply = answered x; store = b; lent = lending (l .scratch) (written w (l .out)) }
   unfolding acceptedOutcome
   with-room h = carried-out (ask q) b l (long-enough h) ∙ ap₂ came (ap answered (f .answers)) (f .leaves l)
 

@@ -13,8 +13,9 @@ use Rattle.palindromes.specs.Reading.{Reading, readingNumber}
 use Rattle.palindromes.specs.End.{End}
 use Rattle.palindromes.specs.Node.{spellingOf}
 use Rattle.palindromes.specs.Bed.{isIdentifier, listing}
+use Rattle.palindromes.specs.Sheet.{sheetLines, isSheet}
 use Rattle.palindromes.specs.Refusal.{Question, theLength, theCount, theLongest, theLongestLength, theOccurrences, page, theMinimalUnique, thePieces}
-use Rattle.palindromes.specs.Refusal.{theLongestAt, theLetter, theRow, theFrequency, spell, find, list, View, questionFaults, Call, opening, add}
+use Rattle.palindromes.specs.Refusal.{theLongestAt, theLetter, theRow, theFrequency, spell, find, list, mark, View, questionFaults, Call, opening, add}
 use Rattle.palindromes.specs.Refusal.{remove, turn, ask, fault, firstFault, isFree, spellingLength, storeSize, scratchSize, faults, refusal}
 use Rattle.palindromes.proofs.Tests.{both-true, false-not-true, non-empty-is}
 use Rattle.store.specs.Layout.{capacityIn, readingIn, usedIn, lettersIn}
@@ -71,6 +72,8 @@ question-numbers σ v (spell r) = (row 7 _ refl, (row 9 _ refl, tt))
 question-numbers σ v (find p) = (row 8 _ refl, (row 4 _ refl, tt))
 question-numbers σ v (list name) =
     (row 10 _ refl, (row 9 _ refl, (row 9 _ refl, tt)))
+question-numbers σ v (mark name sheet) =
+    (row 10 _ refl, (row 13 _ refl, (row 9 _ refl, tt)))
 
 -- the number of any call on a good store, and of an opening on any: one byte, and never 3
 pub number-other : (b : Word) (l : Lent) (call : Call) → Other (refusal (ruleOf b) (viewIn b l) call)
@@ -216,6 +219,15 @@ module _ (b : Word) (l : Lent) where
       → refusal (ruleOf b) (viewIn b l) (ask (list name)) ≡ 0
   unfolding refusal faults questionFaults viewIn firstFault fault
   list-accepted name h k m = rw (h, le-ltb (length (l .scratch)) (scratchSize (length (lettersIn b))) k, le-ltb (length (l .out)) (length (listing (ruleOf b) name (lettersIn b))) m)
+
+  pub mark-name : (name sheet : Word) → isIdentifier name ≡ false → refusal (ruleOf b) (viewIn b l) (ask (mark name sheet)) ≡ 10
+  unfolding refusal faults questionFaults viewIn firstFault fault
+  mark-name name sheet h = rw h
+
+  pub mark-sheet : (name sheet : Word) → isIdentifier name ≡ true → isSheet (sheetLines sheet) ≡ false
+      → refusal (ruleOf b) (viewIn b l) (ask (mark name sheet)) ≡ 13
+  unfolding refusal faults questionFaults viewIn firstFault fault
+  mark-sheet name sheet h k = rw (h, k)
 
   pub opening-capacity : (way : Reading) (k : ℕ) → (leb 1 k && leb k 1024) ≡ false → refusal (ruleOf b) (viewIn b l) (opening way k) ≡ 1
   unfolding refusal faults questionFaults viewIn firstFault fault

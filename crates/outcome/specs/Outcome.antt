@@ -18,8 +18,9 @@ use Rattle.palindromes.specs.Node.{spelt, lengthOf, linkOf, innerOf, spellingOf
 use Rattle.palindromes.specs.Bed.{listing}
 use Rattle.palindromes.specs.Genbank.{genbank}
 use Rattle.palindromes.specs.Factorization.{palindromicLength, factorEnds, endBytes}
+use Rattle.palindromes.specs.Marks.{sheetCounts, fullMarks, countsBytes}
 use Rattle.palindromes.specs.Refusal.{Question, theLength, theCount, theLongest, theLongestLength, theOccurrences, page, theMinimalUnique, thePieces}
-use Rattle.palindromes.specs.Refusal.{theLongestAt, theLetter, theRow, theFrequency, spell, find, list, Call, opening, add, remove, turn, ask, View}
+use Rattle.palindromes.specs.Refusal.{theLongestAt, theLetter, theRow, theFrequency, spell, find, list, mark, Call, opening, add, remove, turn, ask, View}
 use Rattle.palindromes.specs.Refusal.{scratchSize, refusal}
 use Rattle.palindromes.specs.SearchSteps.{reportedSteps}
 use Rattle.store.specs.Layout.{capacityIn, readingIn, usedIn, lettersIn}
@@ -87,6 +88,7 @@ answerTo (theFrequency r) b = answer false 0 (frequency (spellingOf (nodeIn b r)
 answerTo (spell r) b = answer false 0 (length (spellingOf (nodeIn b r))) 0
 answerTo (find p) b = foundAnswer (foundOf (member p (palindromes (ruleOf b) (lettersIn b))) (rowOf b (spelt p)) (reportedMismatch (ruleOf b) p))
 answerTo (list name) b = answer false 0 (length (listing (ruleOf b) name (lettersIn b))) 0
+answerTo (mark name sheet) b = answer (fullMarks (sheetCounts (ruleOf b) name (lettersIn b) sheet)) 0 0 0
 
 -- and what it leaves in the buffers that are lent with it
 unfoldable pub lentAfter : Question → Word → Lent → Lent
@@ -106,6 +108,8 @@ lentAfter (spell r) b l = record { scratch = l .scratch; out = written (spelling
 lentAfter (find p) b l = l
 lentAfter (list name) b l =
     record { scratch = written (replicate (scratchSize (length (lettersIn b))) 0) (l .scratch); out = written (listing (ruleOf b) name (lettersIn b)) (l .out) }
+lentAfter (mark name sheet) b l =
+    record { scratch = l .scratch; out = written (countsBytes (sheetCounts (ruleOf b) name (lettersIn b) sheet)) (l .out) }
 
 -- an accepted call. 01 "Questions and changes"; a question changes no byte of the store
 unfoldable pub acceptedOutcome : Call → Word → Lent → Outcome

@@ -37,6 +37,10 @@ pub record Promise (call : Call) (b : Word) (l : Lent) (r : ℕ) (b′ : Word) (
 abbrev pub Asked : Question → Word → Lent → ℕ → Lent → Type 0
 Asked q b l r l′ = Promise (ask q) b l r b l′
 
+-- the same for one that is lent an output alone
+abbrev pub AskedInto : Question → Word → (out : Word) → ℕ → (out′ : Word) → Type 0
+AskedInto q b out r out′ = Asked q b (lending [] out) r (lending [] out′)
+
 -- the same for an opening, in either reading, which asks nothing of the store's bytes
 pub record OpeningPromise (way : Reading) (k : ℕ) (b : Word) (r : ℕ) (b′ : Word) : Type 0 where
   pub left : Left (outcome (opening way k) b nothing) r b′ nothing

@@ -65,6 +65,10 @@ pub record Answer : Type 0 where
 abbrev pub answer : Bool → ℕ → ℕ → ℕ → Answer
 answer flag row first second = record { flag = flag; row = row; first = first; second = second }
 
+-- one number and nothing else
+abbrev pub tells : ℕ → Answer
+tells n = answer false 0 n 0
+
 abbrev pub answered : Answer → Reply
 answered a = accepted (a .flag) (a .row) (a .first) (a .second)
 

@@ -1,7 +1,7 @@
--- Intervals: what is cut from a record stands where it was cut (`cut-interval`, `interval-cut`); the intervals of a record are those that lie in it,
--- ordered by start and then by end (`intervals-true`, `intervals-is`, `intervals-ordered`); ordered lists with the same members are equal
--- (`ordered-same`); an interval takes four bytes, from which it can be read back (`interval-bytes-length`, `intervals-read`). Rests on the laws of
--- sifted lists in proofs/Lists.antt only.
+-- Intervals: what is cut from a record stands where it was cut (`cut-interval`, `interval-cut`), and the word between two places is an end of the
+-- letters up to the second (`word-between`); the intervals of a record are those that lie in it, ordered by start and then by end (`intervals-true`,
+-- `intervals-is`, `intervals-ordered`); ordered lists with the same members are equal (`ordered-same`); an interval takes four bytes, from which it
+-- can be read back (`interval-bytes-length`, `intervals-read`). Rests on the laws of sifted lists in proofs/Lists.antt only.
 use Prim.Native.Nat.{ℕ, zero, suc, _+_, _*_, _-_, _≤_, _<_}
 use native.Mathlib.Omega.{arith}
 use native.Mathlib.Decide.{ℕ-discrete}
@@ -24,6 +24,18 @@ use Rattle.palindromes.proofs.Lists.{keep-nil, keep-pass, keep-skip, of
 pub record IntervalIn (s : Word) (p : Interval) : Type 0 where
   pub some : p .start < p .end
   pub fits : p .end ≤ length s
+
+-- the word between two places is the end of the letters up to the second
+pub word-between : (i e : ℕ) (s : Word) → wordAt s (interval i e) ≡ drop i (take e s)
+unfolding wordAt
+word-between zero e s = let n : e - 0 ≡ e = omega arith in rw n refl
+word-between (suc i) zero s = let n : 0 - suc i ≡ 0 = omega arith in rw n refl
+word-between (suc i) (suc e) [] = nothing (suc e - suc i)
+  where
+    nothing : (n : ℕ) → take {A = ℕ} n [] ≡ []
+    nothing zero = refl
+    nothing (suc n) = refl
+word-between (suc i) (suc e) (x ∷ s) = let n : suc e - suc i ≡ e - i = omega arith in rw n (word-between i e s)
 
 -- what comes before a place, n letters from there on, and the rest
 parted : (i n : ℕ) (s : Word) → take i s ++ take n (drop i s) ++ drop n (drop i s) ≡ s

@@ -15,4 +15,7 @@ pub mod Bed
 pub mod Genbank
 pub mod Fasta
 pub mod Factorization
+pub mod Digits
+pub mod Sheet
+pub mod Marks
 pub mod Refusal

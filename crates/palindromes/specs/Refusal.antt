@@ -15,6 +15,7 @@ use Rattle.palindromes.specs.Node.{Node, spellingOf}
 use Rattle.palindromes.specs.Bed.{isIdentifier, listing}
 use Rattle.palindromes.specs.Genbank.{genbank}
 use Rattle.palindromes.specs.Factorization.{factorEnds, endBytes}
+use Rattle.palindromes.specs.Sheet.{sheetLines, isSheet}
 
 -- a question with its arguments: it changes no byte of the store
 pub data Question : Type 0 where
@@ -26,6 +27,7 @@ pub data Question : Type 0 where
   spell : (row : ℕ) → Question
   find : (piece : Word) → Question
   list : (identifier : Word) → Question
+  mark : (identifier sheet : Word) → Question
 
 -- a call with its arguments, numbers as the host passes them. The buffers that it is lent to write to come beside it
 pub data Call : Type 0 where
@@ -97,6 +99,12 @@ questionFaults σ v (list name) =
     fault 10 (not (isIdentifier name))
     ∷ fault 9 (ltb (v .scratch) (scratchSize (length (v .letters))))
     ∷ fault 9 (ltb (v .out) (length (listing σ name (v .letters))))
+    ∷ []
+-- 02 (xi) "refusal 13 follows 10 in the order"; 9 is the table's last row
+questionFaults σ v (mark name sheet) =
+    fault 10 (not (isIdentifier name))
+    ∷ fault 13 (not (isSheet (sheetLines sheet)))
+    ∷ fault 9 (ltb (v .out) 32)
     ∷ []
 
 -- the rows of the table that name the call, downwards

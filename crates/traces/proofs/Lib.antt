@@ -13,6 +13,7 @@ pub mod Writes
 pub mod Pages
 pub mod MinimalUnique
 pub mod Pieces
+pub mod Marking
 pub mod Possible
 pub mod Example
 pub mod ExampleInverted
@@ -22,3 +23,4 @@ pub mod ExampleFrequencies
 pub mod ExamplePages
 pub mod ExampleMinimalUnique
 pub mod ExamplePieces
+pub mod ExampleMarking

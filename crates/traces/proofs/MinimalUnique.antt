@@ -15,7 +15,7 @@ use Rattle.palindromes.proofs.MinimalUniqueList.{minimal-few}
 use Rattle.store.specs.Layout.{lettersIn}
 use Rattle.store.specs.Good.{ruleOf}
 use Rattle.transitions.specs.Bytes.{Bytes}
-use Rattle.outcome.specs.Reply.{refusalIn}
+use Rattle.outcome.specs.Reply.{refusalIn, tells}
 use Rattle.outcome.specs.Promise.{OpeningPromise}
 use Rattle.outcome.proofs.Fits.{few}
 use Rattle.outcome.proofs.Questions.{minimal-writing}
@@ -35,7 +35,8 @@ module _ (m k : ℕ) (s : Word) (row : Word → ℕ) (b : Word) (st : State m k 
   minimal-uniques =
       let number = minimal-few (ruleIn m) s in
       record {
-        listed = subst (λ (x : List Interval). Writes theMinimalUnique (length x) (intervalBytes x) b) same-list (writes (st .good) (minimal-writing b));
+        listed = subst (λ (x : List Interval). Writes theMinimalUnique (tells (length x)) (intervalBytes x) b) same-list
+            (writes (st .good) (minimal-writing b));
         read = intervals-read (minimalUnique (ruleIn m) s);
         few = number;
         most = omega (arith, interval-bytes-length (minimalUnique (ruleIn m) s), number, few (st .good), ap length (st .letters));

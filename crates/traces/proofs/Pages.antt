@@ -16,7 +16,7 @@ use Rattle.genbank.proofs.ReadBack.{page-read}
 use Rattle.store.specs.Layout.{lettersIn}
 use Rattle.store.specs.Good.{Good}
 use Rattle.transitions.specs.Bytes.{Bytes}
-use Rattle.outcome.specs.Reply.{refusalIn}
+use Rattle.outcome.specs.Reply.{refusalIn, tells}
 use Rattle.outcome.specs.Promise.{OpeningPromise}
 use Rattle.outcome.proofs.Fits.{few}
 use Rattle.outcome.proofs.Questions.{Writing, page-writing}
@@ -40,7 +40,7 @@ module _ (m k : ℕ) (s : Word) (row : Word → ℕ) (b : Word) (st : State m k 
   pages : Pages s b
   pages =
       record {
-        printed = subst (λ (t : Word). Writes page (length (genbank t)) (genbank t) b) (st .letters) (writes (st .good) (page-writing b));
+        printed = subst (λ (t : Word). Writes page (tells (length (genbank t))) (genbank t) b) (st .letters) (writes (st .good) (page-writing b));
         read = page-read s letters;
         most = page-most s few-letters;
       }
@@ -55,7 +55,8 @@ module _ (way : Reading) (k : ℕ) (b₀ : Word) (h : Bytes b₀) (a : ℕ) (b :
 
 -- good stores with the same letters print alike, whatever their readings, capacities and rows
 same-page : (b c : Word) → Good b → Good c → lettersIn b ≡ lettersIn c → SameAnswer page b c
-same-page b c g h e = same-written g h (subst (λ (s : Word). Writing page (length (genbank s)) (genbank s) b) e (page-writing b)) (page-writing c)
+same-page b c g h e =
+    same-written g h (subst (λ (s : Word). Writing page (tells (length (genbank s))) (genbank s) b) e (page-writing b)) (page-writing c)
 
 -- and so do the stores that two lists of calls leave, where the same letters follow from their arguments; one list may have turns that the other has not
 module _ (way : Reading) (k : ℕ) (b₀ : Word) (h : Bytes b₀) (a : ℕ) (b : Word) (p : OpeningPromise way k b₀ a b) (z : refusalIn a ≡ 0)

@@ -19,7 +19,7 @@ use Rattle.series.proofs.SeriesBound.{steps-few}
 use Rattle.store.specs.Layout.{lettersIn}
 use Rattle.store.specs.Good.{ruleOf}
 use Rattle.transitions.specs.Bytes.{Bytes}
-use Rattle.outcome.specs.Reply.{refusalIn}
+use Rattle.outcome.specs.Reply.{refusalIn, tells}
 use Rattle.outcome.specs.Promise.{OpeningPromise}
 use Rattle.outcome.proofs.Fits.{few}
 use Rattle.outcome.proofs.Refusals.{pieces-inverted}
@@ -38,7 +38,7 @@ module _ (m k : ℕ) (s : Word) (row : Word → ℕ) (b : Word) (st : State m k 
       let rule : ruleOf b ≡ plain = ap ruleIn (st .reading ∙ z) ∙ rule-of-plain in
       let own = writes (st .good) (pieces-writing b (st .reading ∙ z)) in
       subst (λ (w : Word). CutUp w b) (st .letters)
-      (subst (λ (σ : ℕ → ℕ). Writes thePieces (palindromicLength σ (lettersIn b)) (endBytes (factorEnds σ (lettersIn b))) b) rule own)
+      (subst (λ (σ : ℕ → ℕ). Writes thePieces (tells (palindromicLength σ (lettersIn b))) (endBytes (factorEnds σ (lettersIn b))) b) rule own)
 
   inverted : m ≡ 1 → Refuses thePieces 14 b
   inverted z = refuses (st .good) 13 (λ l. pieces-inverted b l (st .reading ∙ z))

@@ -10,6 +10,7 @@ use Rattle.palindromes.specs.Word.{Word}
 use Rattle.palindromes.specs.Refusal.{Question, ask, refusal}
 use Rattle.decimal.proofs.Stores.{stored-front}
 use Rattle.store.specs.Good.{ruleOf, Good}
+use Rattle.outcome.specs.Reply.{Answer}
 use Rattle.outcome.specs.Outcome.{Lent, Outcome, viewIn, outcome, written, refusedOutcome}
 use Rattle.outcome.specs.Promise.{lending, Promise}
 use Rattle.outcome.proofs.Refusals.{refused-out}
@@ -35,32 +36,32 @@ refused g n l a b′ l′ p o =
 pub refuses : {q : Question} {b : Word} → Good b → (n : ℕ) → ((l : Lent) → refusal (ruleOf b) (viewIn b l) (ask q) ≡ suc n) → Refuses q (suc n) b
 refuses {q} {b} g n h l a b′ l′ p = refused g (suc n) l a b′ l′ p (refused-out (ask q) b l n (h l))
 
-module _ {q : Question} {n : ℕ} {w b : Word} (g : Good b) (f : Writing q n w b) where
-  put : (l : Lent) (a : ℕ) (b′ : Word) (l′ : Lent) → Promise (ask q) b l a b′ l′ → length w ≤ length (l .out) → Written n w b l a b′ l′
+module _ {q : Question} {x : Answer} {w b : Word} (g : Good b) (f : Writing q x w b) where
+  put : (l : Lent) (a : ℕ) (b′ : Word) (l′ : Lent) → Promise (ask q) b l a b′ l′ → length w ≤ length (l .out) → Written x w b l a b′ l′
   unfolding written
   put l a b′ l′ p h =
       let t = told g p in
       let o = with-room f l h in
-      let bytes : l′ ≡ lending (l .scratch) (written w (l .out)) = t .lent ∙ ap (λ (x : Outcome). x .lent) o in
+      let bytes : l′ ≡ lending (l .scratch) (written w (l .out)) = t .lent ∙ ap (λ (y : Outcome). y .lent) o in
       record {
-        told = t .reply ∙ ap (λ (x : Outcome). x .reply) o;
-        store = t .store ∙ ap (λ (x : Outcome). x .store) o;
+        told = t .reply ∙ ap (λ (y : Outcome). y .reply) o;
+        store = t .store ∙ ap (λ (y : Outcome). y .store) o;
         bytes = bytes;
-        front = ap (λ (x : Lent). take (length w) (x .out)) bytes ∙ stored-front (l .out) w h;
+        front = ap (λ (y : Lent). take (length w) (y .out)) bytes ∙ stored-front (l .out) w h;
       }
 
-  pub writes : Writes q n w b
+  pub writes : Writes q x w b
   writes = record { written = put; short = λ l a b′ l′ p h. refused g 9 l a b′ l′ p (without-room f l h) }
 
 -- ---- two stores
 
--- on which a question answers the same number and writes the same bytes
-module _ {q : Question} {n : ℕ} {w b c : Word} (f : Writing q n w b) (e : Writing q n w c) (l : Lent) where
+-- on which a question answers the same and writes the same bytes
+module _ {q : Question} {x : Answer} {w b c : Word} (f : Writing q x w b) (e : Writing q x w c) (l : Lent) where
   abbrev Alike : Type 0
   Alike = (outcome (ask q) b l .reply ≡ outcome (ask q) c l .reply) × (outcome (ask q) b l .lent ≡ outcome (ask q) c l .lent)
 
   -- by what the two come to
-  by-outcomes : {x y : Outcome} → outcome (ask q) b l ≡ x → outcome (ask q) c l ≡ y → x .reply ≡ y .reply → x .lent ≡ y .lent → Alike
+  by-outcomes : {y z : Outcome} → outcome (ask q) b l ≡ y → outcome (ask q) c l ≡ z → y .reply ≡ z .reply → y .lent ≡ z .lent → Alike
   by-outcomes i j r t = (
     ap (λ (o : Outcome). o .reply) i ∙ r ∙ sym (ap (λ (o : Outcome). o .reply) j),
     ap (λ (o : Outcome). o .lent) i ∙ t ∙ sym (ap (λ (o : Outcome). o .lent) j),
@@ -77,5 +78,5 @@ module _ {q : Question} {n : ℕ} {w b c : Word} (f : Writing q n w b) (e : Writ
   alike = by-room (decLt (length (l .out)) (length w))
 
 -- good ones then answer alike
-pub same-written : {q : Question} {n : ℕ} {w b c : Word} → Good b → Good c → Writing q n w b → Writing q n w c → SameAnswer q b c
+pub same-written : {q : Question} {x : Answer} {w b c : Word} → Good b → Good c → Writing q x w b → Writing q x w c → SameAnswer q b c
 same-written {q} g h f e = same-answer q g h (λ l. alike f e l .0) (λ l. alike f e l .1)

@@ -6,3 +6,4 @@ pub mod Writes
 pub mod Pages
 pub mod MinimalUnique
 pub mod Pieces
+pub mod Marking

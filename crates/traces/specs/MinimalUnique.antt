@@ -8,12 +8,13 @@ use Rattle.palindromes.specs.Reading.{ruleIn}
 use Rattle.palindromes.specs.Interval.{intervalBytes, intervalsRead}
 use Rattle.palindromes.specs.MinimalUnique.{minimalUnique}
 use Rattle.palindromes.specs.Refusal.{theMinimalUnique}
+use Rattle.outcome.specs.Reply.{tells}
 use Rattle.traces.specs.Writes.{Writes}
 
 -- "answer how many there are and list each start and end", or "a short output buffer is refused with 9"; from the bytes they are read back; "there are
 -- never more than the record has letters", and 4,096 bytes are always enough
 pub record MinimalUniques (m : ℕ) (s b : Word) : Type 0 where
-  pub listed : Writes theMinimalUnique (length (minimalUnique (ruleIn m) s)) (intervalBytes (minimalUnique (ruleIn m) s)) b
+  pub listed : Writes theMinimalUnique (tells (length (minimalUnique (ruleIn m) s))) (intervalBytes (minimalUnique (ruleIn m) s)) b
   pub read : intervalsRead (intervalBytes (minimalUnique (ruleIn m) s)) ≡ minimalUnique (ruleIn m) s
   pub few : length (minimalUnique (ruleIn m) s) ≤ length s
   pub most : length (intervalBytes (minimalUnique (ruleIn m) s)) ≤ 4096

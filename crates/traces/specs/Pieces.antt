@@ -9,11 +9,12 @@ use Rattle.palindromes.specs.Palindrome.{plain}
 use Rattle.palindromes.specs.Factorization.{MinimalFactorization, endsOf, palindromicLength, factorEnds, endBytes, endsRead}
 use Rattle.series.specs.Series.{seriesSteps, mostSeries}
 use Rattle.palindromes.specs.Refusal.{thePieces}
+use Rattle.outcome.specs.Reply.{tells}
 use Rattle.traces.specs.Writes.{Writes, Refuses}
 
 -- "give the number of pieces and their ends", or "a short buffer with 9"
 abbrev pub CutUp : Word → Word → Type 0
-CutUp s b = Writes thePieces (palindromicLength plain s) (endBytes (factorEnds plain s)) b
+CutUp s b = Writes thePieces (tells (palindromicLength plain s)) (endBytes (factorEnds plain s)) b
 
 -- "only plain records are cut", "an inverted record is refused with 14"; the number and the ends are those of the one cutting that is asked for; from
 -- the bytes they are read back; there are never more pieces than letters, so 2,048 bytes are always enough; and the walks that find them visit at most

@@ -1,7 +1,7 @@
--- The rows of a good store. A good store is a table that covers its letters; the row that holds a node is the one row that `rowOf` finds, and the link, the inner row, the
--- edges, the stored length and the outer letter of a used row are what the eertree says of its node. There is a free row while the store is not full. Last, every number that an
--- addition or a removal writes is small enough for a cell.
--- Rests on the laws of tables that cover a record (`Covers`, `Rows` of eertree) and on `count-length`: a record has no more palindromes than letters.
+-- The rows of a good store. A good store is a table that covers its letters; the row that holds a node is the one row that `rowOf` finds, and the link, the
+-- inner row, the edges, the stored length and the outer letter of a used row are what the eertree says of its node. There is a free row while the store is not
+-- full. Last, every number that an addition or a removal writes is small enough for a cell. Rests on the laws of tables that cover a record (`Covers`, `Rows`
+-- of eertree) and on `count-length`: a record has no more palindromes than letters.
 use Prim.Native.Nat.{ℕ, zero, suc, _+_, _*_, _≤_, _<_}
 use native.Mathlib.Nat.{eq-or-lt-of-le, le-of-suc-le-suc}
 use native.Mathlib.Omega.{arith}
@@ -24,7 +24,8 @@ use Rattle.palindromes.proofs.Growth.{letter-around}
 use Rattle.eertree.specs.Covers.{NodeOf, Covers, EdgesEnd}
 use Rattle.eertree.proofs.Covers.{node-is, shows-covers, shows-edges-end}
 use Rattle.eertree.proofs.Rows.{reachOf, row-reach, word-row}
-use Rattle.store.specs.Layout.{cell, capacityIn, sizeIn, countIn, endRow, lengthIn, linkIn, innerIn, outerIn, edgeIn, orderIn, rankIn, usedIn, lettersAt, lettersIn}
+use Rattle.store.specs.Layout.{cell, capacityIn, sizeIn, countIn, endRow, lengthIn, linkIn, innerIn, outerIn, edgeIn, orderIn, rankIn, usedIn, lettersAt}
+use Rattle.store.specs.Layout.{lettersIn}
 use Rattle.store.specs.Writes.{stored}
 use Rattle.store.specs.Good.{ruleOf, tableIn, nodeIn, Sized, Good}
 use Rattle.store.proofs.Sizes.{letters-length, used-below}
@@ -155,6 +156,14 @@ module _ {b : Word} (g : Good b) where
   pub count-most : countIn b ≤ sizeIn b
   count-most = omega (arith, g .count-is, count-length (ruleOf b) (lettersIn b), letters-length (g .sized))
 
+  -- a row in use has a rank below the number of letters
+  pub rank-below : (r : ℕ) → usedIn b r ≡ true → 2 ≤ r → rankIn b r < sizeIn b
+  rank-below r u l = omega (arith, used-rank b r l u, count-most)
+
+  -- and no other row has the same
+  pub rank-only : (r q : ℕ) → usedIn b r ≡ true → usedIn b q ≡ true → 2 ≤ r → 2 ≤ q → rankIn b r ≡ rankIn b q → r ≡ q
+  rank-only r q u v l m e = cc (g .rank r l (used-below b r u) .back, g .rank q m (used-below b q v) .back)
+
   -- a used row lies within the bytes
   pub used-fits : (r : ℕ) → usedIn b r ≡ true → 24 * r + 24 ≤ length b
   used-fits r u = row-fits (g .sized) r (used-below b r u)
@@ -165,7 +174,8 @@ module _ {b : Word} (g : Good b) where
   pub row-of : (r : ℕ) (v : Node) → usedIn b r ≡ true → nodeIn b r ≡ v → rowOf b v ≡ r
   unfolding rowOf
   row-of r v u e =
-      least-only (λ q. usedIn b q && sameNode (nodeIn b q) v) (capacityIn b + 2) r (used-below b r u) (both-are (usedIn b r) (sameNode (nodeIn b r) v) u (same-node-is e)) λ q h.
+      least-only (λ q. usedIn b q && sameNode (nodeIn b q) v) (capacityIn b + 2) r (used-below b r u)
+      (both-are (usedIn b r) (sameNode (nodeIn b r) v) u (same-node-is e)) λ q h.
       let t = both-true (usedIn b q) (sameNode (nodeIn b q) v) h in
       g .table .one-row q r (t .0) u (same-node-true (nodeIn b q) v (t .1) ∙ sym e)
 
@@ -196,7 +206,8 @@ module _ {b : Word} (g : Good b) where
     pub inner-row : innerIn b r ≡ rowOf b (innerOf (nodeIn b r))
     inner-row = let h = covers .inner-is r u in sym (row-of (innerIn b r) (innerOf (nodeIn b r)) (h .0) (h .1))
 
-    pub edge-row : (c : ℕ) → isLetter c ≡ true → NodeOf (ruleOf b) (lettersIn b) (spelt (around (ruleOf b) c (nodeIn b r))) → edgeIn b r c ≡ rowOf b (spelt (around (ruleOf b) c (nodeIn b r)))
+    pub edge-row : (c : ℕ) → isLetter c ≡ true → NodeOf (ruleOf b) (lettersIn b) (spelt (around (ruleOf b) c (nodeIn b r)))
+        → edgeIn b r c ≡ rowOf b (spelt (around (ruleOf b) c (nodeIn b r)))
     edge-row c l n = let h = covers .edge-there r c u l n in sym (row-of (edgeIn b r c) (spelt (around (ruleOf b) c (nodeIn b r))) (h .0) (h .1))
 
     -- its first cell holds its length plus one
@@ -218,7 +229,8 @@ module _ {b : Word} (g : Good b) where
   -- ---- the next free row
 
   -- a row that is not used holds no repeat
-  unused-none : (r : ℕ) → usedIn b r ≡ false → (w : Word) → member w (palindromes (ruleOf b) (lettersIn b)) ≡ true → rowOf b (spelt w) ≡ r → ⊥
+  unused-none : (r : ℕ) → usedIn b r ≡ false → (w : Word) → member w (palindromes (ruleOf b) (lettersIn b)) ≡ true → rowOf b (spelt w) ≡ r
+      → ⊥
   unused-none r u w m e =
       let p = palindromes-true (ruleOf b) w (lettersIn b) m in
       false-not-true (rw e u) (row-of-node (spelt w) (p .0 .symmetric, p .1) .0)

@@ -1,0 +1,3 @@
+pub mod Fields
+pub mod Parsing
+pub mod Lines

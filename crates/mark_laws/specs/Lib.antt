@@ -1,0 +1,2 @@
+pub mod Full
+pub mod Slip

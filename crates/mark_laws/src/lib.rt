@@ -1,0 +1,1 @@
+// Laws of the marks of a sheet; no code.
