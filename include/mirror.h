@@ -35,6 +35,8 @@ extern "C" {
 #define MIRROR_MINIMAL_UNIQUE_SIZE(letters) (4 * (size_t)(letters))
 /* Output that is always enough for the ends of the fewest pieces of so many letters, two bytes for each piece. */
 #define MIRROR_PIECES_SIZE(letters) (2 * (size_t)(letters))
+/* The bytes of a mark sheet: four counts of eight bytes each. */
+#define MIRROR_MARKS_SIZE 32
 
 enum {
     MIRROR_CAPACITY = 1,    /* opening: capacity outside 1 to 1,024 */
@@ -48,6 +50,7 @@ enum {
     MIRROR_NO_ROOM = 9,     /* buffer shorter than needed */
     MIRROR_IDENTIFIER = 10, /* identifier not 1 to 32 letters, digits or underscores; FASTA: first line not right */
     MIRROR_SECOND_HEADER = 11, /* FASTA: a later line begins with `>` */
+    MIRROR_NO_SHEET = 13,   /* mark: a line that is not three fields ended by LF, or whose numbers are none */
     MIRROR_INVERTED = 14    /* pieces: record inverted */
 };
 
@@ -112,6 +115,16 @@ uint64_t mirror_minimal_unique(const uint8_t *store, size_t length, uint8_t *out
  * Of all cuttings into so few it is the one whose last piece is the longest, then the one before it, and so on. An inverted record
  * may have no cutting and is refused with 14, an empty one too, however short `out` is. */
 uint64_t mirror_pieces(const uint8_t *store, size_t length, uint8_t *out, size_t out_length);
+/* Marks a sheet of BED lines against the record; the flag says whether it has full marks. A line is identifier, tab, start, tab,
+ * end, LF, and no field holds a tab or LF; start and end are one to four digits, 0 or without a leading 0. Any other line, a last
+ * one without its LF too, has the whole sheet refused with 13. A line is right if its identifier is the one given, start is below
+ * end, end is at most the record's length, a repeat stands there, at whatever place of it, and no right line above names the same
+ * repeat; repeated if only the last of these fails; and wrong otherwise. The first MIRROR_MARKS_SIZE bytes of `marks` become the
+ * numbers of right, repeated and wrong lines and of missing repeats, those that no right line names, which mirror_right,
+ * mirror_repeated, mirror_wrong and mirror_missing read; what they held before is replaced, and later bytes stay. A sheet of any
+ * length is read. It has full marks if it has a right line for each repeat and no other line: an empty one where there is none. */
+uint64_t mirror_mark(const uint8_t *store, size_t length, const uint8_t *identifier, size_t identifier_length,
+                     const uint8_t *sheet, size_t sheet_length, uint8_t *marks, size_t marks_length);
 /* Reads a FASTA text of any length; needs no store. The identifier stands behind the first `>`, and its length is the
  * first number; the letters go to the front of `out`, and how many is the second. 1,024 bytes are always room enough. In
  * the lines after the first a, c, g and t are read, and written, as A, C, G and T; additions and find take capitals only. */
@@ -138,6 +151,17 @@ static inline unsigned mirror_start(const uint8_t *out, size_t i) { return out[4
 static inline unsigned mirror_end(const uint8_t *out, size_t i) { return out[4 * i + 2] + 256u * out[4 * i + 3]; }
 /* Where piece i, from 0, ends in what mirror_pieces wrote. It begins where the piece before it ends, the first at 0. */
 static inline unsigned mirror_piece_end(const uint8_t *out, size_t i) { return out[2 * i] + 256u * out[2 * i + 1]; }
+/* The counts in what mirror_mark wrote, eight bytes each, low byte first. */
+static inline uint64_t mirror_count_at(const uint8_t *marks, size_t i)
+{
+    uint64_t n = 0;
+    for (size_t k = 8; k > 0; k--) n = n << 8 | marks[8 * i + k - 1];
+    return n;
+}
+static inline uint64_t mirror_right(const uint8_t *marks) { return mirror_count_at(marks, 0); }
+static inline uint64_t mirror_repeated(const uint8_t *marks) { return mirror_count_at(marks, 1); }
+static inline uint64_t mirror_wrong(const uint8_t *marks) { return mirror_count_at(marks, 2); }
+static inline uint64_t mirror_missing(const uint8_t *marks) { return mirror_count_at(marks, 3); }
 
 #ifdef __cplusplus
 }

@@ -15,7 +15,7 @@ ghost use Rattle.palindromes.specs.Genbank.{genbank};
 ghost use Rattle.palindromes.specs.Refusal.{ask, page};
 ghost use Rattle.store.specs.Layout.{lettersIn};
 ghost use Rattle.store.specs.Good.{Good};
-ghost use Rattle.outcome.specs.Promise.{lending, Asked};
+ghost use Rattle.outcome.specs.Promise.{lending, AskedInto};
 ghost use Rattle.outcome.specs.Verdict.{Verdict};
 
 // Writes the page of a good store's letters at the front of the buffer, and answers how many bytes it has.
@@ -46,7 +46,7 @@ fn judge_page(store: &[u8], out: &[u8]) -> u64
 
 // Prints the record, and answers how many bytes the page has.
 pub fn print_record(store: &[u8], out: &mut [u8]) -> u64
-    ensures { λ r. ⌜ Asked page (now (store .entry)) (lending [] (now (out .entry))) r (lending [] (now (out .exit))) ⌝ }
+    ensures { λ r. ⌜ AskedInto page (now (store .entry)) (now (out .entry)) r (now (out .exit)) ⌝ }
 {
     let number = judge_page(store, out);
     if number != 0 {

@@ -2,12 +2,11 @@
 // function of the crate of its call, with the same promise, which holds for all bytes and all numbers.
 ghost use Rattle.palindromes.specs.Reading.{asPlain, asInverted};
 ghost use Rattle.palindromes.specs.End.{atLeft, atRight};
-ghost use mathlib.Core.List.{[]};
 ghost use Rattle.palindromes.specs.Refusal.{add, remove, turn, theLength, theCount, theLongest, theLongestLength, theLongestAt, theLetter, theRow};
-ghost use Rattle.palindromes.specs.Refusal.{theFrequency, theOccurrences, spell, find, list, page, theMinimalUnique, thePieces};
+ghost use Rattle.palindromes.specs.Refusal.{theFrequency, theOccurrences, spell, find, list, page, theMinimalUnique, thePieces, mark};
 ghost use Rattle.fasta_call.specs.Answer.{FastaPromise};
 ghost use Rattle.uncertain_call.specs.Answer.{UncertainPromise};
-ghost use Rattle.outcome.specs.Promise.{lending, nothing, Promise, OpeningPromise, FreeRow, Asked};
+ghost use Rattle.outcome.specs.Promise.{lending, nothing, Promise, OpeningPromise, FreeRow, Asked, AskedInto};
 
 // Opens an empty plain record of the given capacity.
 #[no_mangle]
@@ -158,7 +157,7 @@ pub extern "C" fn mirror_occurrences(store: &[u8]) -> u64
 // Writes a row's repeat.
 #[no_mangle]
 pub extern "C" fn mirror_spell(store: &[u8], row: u64, out: &mut [u8]) -> u64
-    ensures { λ r. ⌜ Asked (spell row) (now (store .entry)) (lending [] (now (out .entry))) r (lending [] (now (out .exit))) ⌝ }
+    ensures { λ r. ⌜ AskedInto (spell row) (now (store .entry)) (now (out .entry)) r (now (out .exit)) ⌝ }
 {
     spell_call::spell_row(store, row, out)
 }
@@ -187,7 +186,7 @@ pub extern "C" fn mirror_list(
 // Prints the record as in GenBank.
 #[no_mangle]
 pub extern "C" fn mirror_genbank(store: &[u8], out: &mut [u8]) -> u64
-    ensures { λ r. ⌜ Asked page (now (store .entry)) (lending [] (now (out .entry))) r (lending [] (now (out .exit))) ⌝ }
+    ensures { λ r. ⌜ AskedInto page (now (store .entry)) (now (out .entry)) r (now (out .exit)) ⌝ }
 {
     genbank_call::print_record(store, out)
 }
@@ -195,7 +194,7 @@ pub extern "C" fn mirror_genbank(store: &[u8], out: &mut [u8]) -> u64
 // Lists where the minimal unique repeats stand.
 #[no_mangle]
 pub extern "C" fn mirror_minimal_unique(store: &[u8], out: &mut [u8]) -> u64
-    ensures { λ r. ⌜ Asked theMinimalUnique (now (store .entry)) (lending [] (now (out .entry))) r (lending [] (now (out .exit))) ⌝ }
+    ensures { λ r. ⌜ AskedInto theMinimalUnique (now (store .entry)) (now (out .entry)) r (now (out .exit)) ⌝ }
 {
     minimal_unique_call::list_minimal_unique(store, out)
 }
@@ -203,9 +202,22 @@ pub extern "C" fn mirror_minimal_unique(store: &[u8], out: &mut [u8]) -> u64
 // Cuts a plain record into the fewest repeats: how many there are, and where each ends, two bytes each.
 #[no_mangle]
 pub extern "C" fn mirror_pieces(store: &[u8], out: &mut [u8]) -> u64
-    ensures { λ r. ⌜ Asked thePieces (now (store .entry)) (lending [] (now (out .entry))) r (lending [] (now (out .exit))) ⌝ }
+    ensures { λ r. ⌜ AskedInto thePieces (now (store .entry)) (now (out .entry)) r (now (out .exit)) ⌝ }
 {
     pieces_call::list_pieces(store, out)
+}
+
+// Marks a sheet of BED lines: whether it has full marks. Its four counts replace those of the mark sheet.
+#[no_mangle]
+pub extern "C" fn mirror_mark(
+    store: &[u8],
+    identifier: &[u8],
+    sheet: &[u8],
+    marks: &mut [u8],
+) -> u64
+    ensures { λ r. ⌜ AskedInto (mark (now (identifier .entry)) (now (sheet .entry))) (now (store .entry)) (now (marks .entry)) r (now (marks .exit)) ⌝ }
+{
+    mark_call::mark_list(store, identifier, sheet, marks)
 }
 
 // Reads a FASTA text: the identifier's length and the number of letters, which go to the buffer.

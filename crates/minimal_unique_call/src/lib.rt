@@ -1,8 +1,7 @@
 // The host's call that lists where the minimal unique repeats stand. It tests its store and its buffer, asks nothing of
 // the caller, and leaves every byte as the outcome of the call says.
-ghost use mathlib.Core.List.{[]};
 ghost use Rattle.palindromes.specs.Refusal.{theMinimalUnique};
-ghost use Rattle.outcome.specs.Promise.{lending, Asked};
+ghost use Rattle.outcome.specs.Promise.{AskedInto};
 use minimal_unique::count_minimal;
 use minimal_unique::put_minimal;
 use outcome::pack;
@@ -11,7 +10,7 @@ use unique_rows::mark_rows;
 
 // Writes where each stands, four bytes each, and answers how many there are.
 pub fn list_minimal_unique(store: &[u8], out: &mut [u8]) -> u64
-    ensures { λ r. ⌜ Asked theMinimalUnique (now (store .entry)) (lending [] (now (out .entry))) r (lending [] (now (out .exit))) ⌝ }
+    ensures { λ r. ⌜ AskedInto theMinimalUnique (now (store .entry)) (now (out .entry)) r (now (out .exit)) ⌝ }
 {
     if !audit::is_good(store) {
         return refuse(3);

@@ -1,8 +1,7 @@
 // The host's call that cuts a record into the fewest repeats. It tests its store and its buffer, asks nothing of the caller,
 // and leaves every byte as the outcome of the call says.
-ghost use mathlib.Core.List.{[]};
 ghost use Rattle.palindromes.specs.Refusal.{thePieces};
-ghost use Rattle.outcome.specs.Promise.{lending, Asked};
+ghost use Rattle.outcome.specs.Promise.{AskedInto};
 use factorization::factorize;
 use factorization::put_ends;
 use outcome::pack;
@@ -11,7 +10,7 @@ use store::header;
 
 // Writes where each piece ends, two bytes each, and answers how many there are.
 pub fn list_pieces(store: &[u8], out: &mut [u8]) -> u64
-    ensures { λ r. ⌜ Asked thePieces (now (store .entry)) (lending [] (now (out .entry))) r (lending [] (now (out .exit))) ⌝ }
+    ensures { λ r. ⌜ AskedInto thePieces (now (store .entry)) (now (out .entry)) r (now (out .exit)) ⌝ }
 {
     if !audit::is_good(store) {
         return refuse(3);

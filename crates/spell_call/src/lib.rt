@@ -2,7 +2,7 @@
 // leaves every byte as the outcome of the call says.
 ghost use mathlib.Core.List.{[]};
 ghost use Rattle.palindromes.specs.Refusal.{ask, spell};
-ghost use Rattle.outcome.specs.Promise.{lending, Asked};
+ghost use Rattle.outcome.specs.Promise.{lending, AskedInto};
 ghost use Rattle.outcome.specs.Verdict.{Verdict};
 use outcome::pack;
 use outcome::refuse;
@@ -26,7 +26,7 @@ fn judge_spell(store: &[u8], row: u64, out: &[u8]) -> u64
 
 // Writes a row's repeat, and answers how many bytes it has.
 pub fn spell_row(store: &[u8], row: u64, out: &mut [u8]) -> u64
-    ensures { λ r. ⌜ Asked (spell row) (now (store .entry)) (lending [] (now (out .entry))) r (lending [] (now (out .exit))) ⌝ }
+    ensures { λ r. ⌜ AskedInto (spell row) (now (store .entry)) (now (out .entry)) r (now (out .exit)) ⌝ }
 {
     let number = judge_spell(store, row, out);
     if number != 0 {

@@ -1,0 +1,2 @@
+pub mod Ways
+pub mod Mirrored

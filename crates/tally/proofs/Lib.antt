@@ -1,0 +1,2 @@
+-- the laws of numbers held in bytes
+pub mod Bytes
