@@ -4,21 +4,35 @@
  *
  *     key [FILE]        standard input where no file is named
  *
+ * `mark e1 SHEET` marks a candidate's sheet under the identifier e1. The sheet is the name of the file that holds it, or stands
+ * between quotes: each byte for itself, but \t for a tab, \n for LF, \r for CR, \\ for a backslash and \xNN for the byte with
+ * this number in base sixteen, so that \x22 is a quote. The identifier may stand between quotes too. One mark sheet is kept from
+ * the first line to the last, zeros at first, and `marks` prints what it holds. It is lent as 32 bytes, or as many as a number
+ * behind the sheet says.
+ *
  * Every line is looked at before the first call is made, so that a slip in the file never leaves half a key: it is told
  * with its line's number, and the status is 1. The first call must be an opening. */
 #include "mirror.h"
 #include <ctype.h>
 #include <errno.h>
+#include <inttypes.h>
 #include <stdarg.h>
 #include <stdio.h>
 #include <stdlib.h>
 #include <string.h>
 
-enum { MOST = 1024, WORDS = 4 };
+enum { MOST = 1024, WORDS = 5 }; /* a word more than any call has, so that one too many is seen */
 
 static uint8_t store[MIRROR_STORE_SIZE(MOST)];
 static uint8_t text[MIRROR_LIST_SIZE(MOST)]; /* what the last spelling, listing or printing wrote */
 static unsigned written;
+static uint8_t marks[2 * MIRROR_MARKS_SIZE];
+
+/* Bytes in memory of their own. */
+struct bytes {
+    uint8_t *at;
+    size_t length;
+};
 
 /* One line of the file. */
 struct line {
@@ -26,12 +40,13 @@ struct line {
     char *words[WORDS];      /* its words, "" where there are fewer; a title whole */
     uint64_t number;
     int left;
+    struct bytes name, sheet; /* of a marking; no bytes elsewhere */
 };
 
 /* What a call takes, how it is made, and its accepted answer in words. */
 struct form {
     const char *name;
-    enum { NOTHING, NUMBER, MAYBE_NUMBER, END, MAYBE_END, LETTER_AND_END, READING, MAYBE_TEXT } takes;
+    enum { NOTHING, NUMBER, MAYBE_NUMBER, END, MAYBE_END, LETTER_AND_END, READING, MAYBE_TEXT, SHEET } takes;
     const char *usage;
     uint64_t (*make)(const struct line *);
     void (*say)(const struct line *, uint64_t answer);
@@ -192,17 +207,17 @@ static void say_list(const struct line *l, uint64_t answer)
     }
 }
 
-/* What is written is lent just the bytes that it takes or, so that a refusal can be shown, as many as the line says. */
-static size_t room(const struct line *l, size_t bytes)
+/* What is written is lent just the bytes that it takes or, so that a refusal can be shown, as many as this word of the line says. */
+static size_t room(const struct line *l, size_t word, size_t bytes, size_t most)
 {
-    if (!*l->words[1]) return bytes;
-    return l->number < sizeof text ? (size_t)l->number : sizeof text;
+    if (!*l->words[word]) return bytes;
+    return l->number < most ? (size_t)l->number : most;
 }
 
 static uint64_t make_genbank(const struct line *l)
 {
     size_t letters = mirror_first(mirror_length(store, sizeof store));
-    uint64_t answer = mirror_genbank(store, sizeof store, text, room(l, MIRROR_GENBANK_SIZE(letters)));
+    uint64_t answer = mirror_genbank(store, sizeof store, text, room(l, 1, MIRROR_GENBANK_SIZE(letters), sizeof text));
     written = mirror_first(answer);
     return answer;
 }
@@ -221,7 +236,7 @@ static void say_genbank(const struct line *l, uint64_t answer)
 static uint64_t make_minimal(const struct line *l)
 {
     unsigned n = mirror_first(mirror_minimal_unique(store, sizeof store, text, sizeof text));
-    return mirror_minimal_unique(store, sizeof store, text, room(l, MIRROR_MINIMAL_UNIQUE_SIZE(n)));
+    return mirror_minimal_unique(store, sizeof store, text, room(l, 1, MIRROR_MINIMAL_UNIQUE_SIZE(n), sizeof text));
 }
 
 /* Where each of them stands, with its end one past its last letter. */
@@ -236,7 +251,7 @@ static void say_minimal(const struct line *l, uint64_t answer)
 static uint64_t make_pieces(const struct line *l)
 {
     unsigned n = mirror_first(mirror_pieces(store, sizeof store, text, sizeof text));
-    return mirror_pieces(store, sizeof store, text, room(l, MIRROR_PIECES_SIZE(n)));
+    return mirror_pieces(store, sizeof store, text, room(l, 1, MIRROR_PIECES_SIZE(n), sizeof text));
 }
 
 /* How many there are, and where each ends, one past its last letter. */
@@ -260,6 +275,28 @@ static void say_uncertain(const struct line *l, uint64_t answer)
     printf("%u for some choice, %u for every choice", mirror_first(answer), mirror_second(answer));
 }
 
+static uint64_t make_mark(const struct line *l)
+{
+    size_t lent = room(l, 3, MIRROR_MARKS_SIZE, sizeof marks);
+    return mirror_mark(store, sizeof store, l->name.at, l->name.length, l->sheet.at, l->sheet.length, marks, lent);
+}
+
+/* No call is made: what the mark sheet holds is read. */
+static uint64_t make_marks(const struct line *l) { return (void)l, 0; }
+
+static void say_marks(const struct line *l, uint64_t answer)
+{
+    (void)l, (void)answer;
+    printf("%" PRIu64 " right, %" PRIu64 " repeated, ", mirror_right(marks), mirror_repeated(marks));
+    printf("%" PRIu64 " wrong, %" PRIu64 " missing", mirror_wrong(marks), mirror_missing(marks));
+}
+
+static void say_mark(const struct line *l, uint64_t answer)
+{
+    say_marks(l, answer);
+    printf(mirror_flag(answer) ? "; full marks" : "; not full marks");
+}
+
 static const struct form forms[] = {
     {"open", NUMBER, "open CAPACITY", make_open, say_done},
     {"open-inverted", NUMBER, "open-inverted CAPACITY", make_open_inverted, say_done},
@@ -281,6 +318,8 @@ static const struct form forms[] = {
     {"minimal", MAYBE_NUMBER, "minimal, minimal BYTES", make_minimal, say_minimal},
     {"pieces", MAYBE_NUMBER, "pieces, pieces BYTES", make_pieces, say_pieces},
     {"uncertain", MAYBE_TEXT, "uncertain CODES", make_uncertain, say_uncertain},
+    {"mark", SHEET, "mark IDENTIFIER \"SHEET\", mark IDENTIFIER FILE, and BYTES behind it", make_mark, say_mark},
+    {"marks", NOTHING, "marks", make_marks, say_marks},
     {"rows", NOTHING, "rows", NULL, NULL},
 };
 
@@ -299,31 +338,80 @@ static void stop(const char *format, ...)
     exit(1);
 }
 
-/* The whole file, with a zero byte behind it. */
+/* The whole file, with a zero byte behind it; NULL where it cannot be read or held, and errno says why. */
 static char *read_all(FILE *in, size_t *length)
 {
     size_t room = 1 << 16, n = 0;
     char *bytes = malloc(room);
     while (bytes) {
         n += fread(bytes + n, 1, room - n - 1, in);
-        if (ferror(in)) stop(": %s", strerror(errno));
-        if (feof(in)) break;
+        if (ferror(in) || feof(in)) break;
         bytes = realloc(bytes, room *= 2);
     }
-    if (!bytes) stop(": too long to be held in memory");
-    bytes[n] = 0;
+    if (bytes && ferror(in)) {
+        int why = errno;
+        free(bytes);
+        errno = why;
+        return NULL;
+    }
+    if (bytes) bytes[n] = 0;
     *length = n;
     return bytes;
 }
 
-static void number(struct line *l, size_t at)
+static void number(struct line *l, const char *word, size_t at)
 {
-    const char *word = l->words[1];
     for (const char *digit = word; *digit; digit++)
         if (!isdigit((unsigned char)*digit)) stop(", line %zu: '%.40s' is no number: %s", at, word, l->form->usage);
     errno = 0;
     l->number = strtoull(word, NULL, 10);
     if (errno == ERANGE) stop(", line %zu: the number is too long", at);
+}
+
+/* The value of a digit of base sixteen; -1 for any other byte. */
+static int hex(char digit)
+{
+    static const char digits[] = "0123456789abcdef";
+    const char *found = digit ? strchr(digits, tolower((unsigned char)digit)) : NULL;
+    return found ? (int)(found - digits) : -1;
+}
+
+/* The byte that an escape stands for; it begins behind its backslash, and *c goes behind it. */
+static uint8_t escape(const char **c, size_t at)
+{
+    static const char named[] = "tnr\\", bytes[] = "\t\n\r\\";
+    const char *from = *c, *name = strchr(named, *from);
+    int high = *from == 'x' ? hex(from[1]) : -1, low = high < 0 ? -1 : hex(from[2]);
+    if (!name && low < 0) stop(", line %zu: '\\%.1s' is none of \\t, \\n, \\r, \\\\ and \\xNN", at, from);
+    *c += name ? 1 : 3;
+    return name ? (uint8_t)bytes[name - named] : (uint8_t)(16 * high + low);
+}
+
+/* The bytes of a word: what stands between its quotes or, where it has none, the word itself. */
+static struct bytes bytes_of(const char *word, size_t at)
+{
+    struct bytes b = {malloc(strlen(word) + 1), 0};
+    const char *c = word + (*word == '"'), *end = *word == '"' ? strchr(c, '"') : word + strlen(word);
+    if (!b.at) stop(": too long to be held in memory");
+    if (!end) stop(", line %zu: a quote that is not closed", at);
+    if (*end && end[1]) stop(", line %zu: '%.40s' behind the closing quote", at, end + 1);
+    while (c < end) {
+        uint8_t byte = (uint8_t)*c++;
+        b.at[b.length++] = *end && byte == '\\' ? escape(&c, at) : byte;
+    }
+    return b;
+}
+
+/* A sheet: what stands between quotes or, where there are none, in the file of this name. */
+static struct bytes sheet_of(const char *word, size_t at)
+{
+    struct bytes b = {0};
+    if (*word == '"') return bytes_of(word, at);
+    FILE *in = fopen(word, "rb");
+    if (in) b.at = (uint8_t *)read_all(in, &b.length);
+    if (!b.at) stop(", line %zu: %s: %s", at, word, strerror(errno));
+    fclose(in);
+    return b;
 }
 
 /* Whether the last of so many words names an end; which one is noted. */
@@ -353,8 +441,16 @@ static int fits(struct line *l, size_t words)
     case MAYBE_END: return words == 1 || (words == 2 && end(l, words));
     case LETTER_AND_END: return words == 3 && strlen(l->words[1]) == 1 && end(l, words);
     case READING: return words == 2 && names_reading(l);
+    case SHEET: return words == 3 || words == 4;
     default: return words <= 2; /* MAYBE_TEXT */
     }
+}
+
+/* Where a word ends: at a blank, which between quotes is no end. */
+static char *word_end(char *word)
+{
+    char *from = *word == '"' ? strchr(word + 1, '"') : word;
+    return from ? from + strcspn(from, " \t") : word + strlen(word);
 }
 
 /* Cuts a line into words; how many, 0 where it is empty. A byte that a line of the table could not show ends it all. */
@@ -364,7 +460,11 @@ static size_t cut(char *line, struct line *l, size_t at)
     for (size_t i = 0; i < WORDS; i++) l->words[i] = "";
     for (char *c = line; *c; c++)
         if (*c == '|' || (!isblank((unsigned char)*c) && !isgraph((unsigned char)*c))) stop(", line %zu: a byte that no call has", at);
-    for (char *word = strtok(line, " \t"); word && words < WORDS; word = strtok(NULL, " \t")) l->words[words++] = word;
+    for (char *c = line + strspn(line, " \t"); *c && words < WORDS; c += strspn(c, " \t")) {
+        l->words[words++] = c;
+        c = word_end(c);
+        if (*c) *c++ = 0;
+    }
     return words;
 }
 
@@ -374,7 +474,11 @@ static void read_call(struct line *l, size_t words, size_t at)
         if (strcmp(l->words[0], forms[i].name) == 0) l->form = &forms[i];
     if (!l->form) stop(", line %zu: '%.40s' is no call", at, l->words[0]);
     if (!fits(l, words)) stop(", line %zu: no call like this: %s", at, l->form->usage);
-    if (l->form->takes == NUMBER || (l->form->takes == MAYBE_NUMBER && words == 2)) number(l, at);
+    if (l->form->takes == NUMBER || (l->form->takes == MAYBE_NUMBER && words == 2)) number(l, l->words[1], at);
+    if (l->form->takes != SHEET) return;
+    number(l, l->words[3], at);
+    l->name = bytes_of(l->words[1], at);
+    l->sheet = sheet_of(l->words[2], at);
 }
 
 /* Puts a zero byte in place of the line's LF or CR LF; where the next line begins. */
@@ -477,10 +581,13 @@ int main(int argc, char **argv)
     if (!in) stop(": %s", strerror(errno));
     size_t length;
     char *bytes = read_all(in, &length);
+    if (!bytes) stop(": %s", strerror(errno));
     struct line *lines = calloc(length / 2 + 2, sizeof *lines); /* a line that counts has a byte and, but for the last, an LF */
     if (!lines) stop(": too long to be held in memory");
-    print_key(lines, read_lines(bytes, bytes + length, lines));
+    size_t n = read_lines(bytes, bytes + length, lines);
+    print_key(lines, n);
     if (fflush(stdout) != 0 || ferror(stdout)) stop(": the key could not be written: %s", strerror(errno));
+    for (size_t i = 0; i < n; i++) free(lines[i].name.at), free(lines[i].sheet.at);
     free(lines);
     free(bytes);
     return 0;

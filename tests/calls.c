@@ -27,18 +27,20 @@ uint64_t call_make(const library *of, uint8_t *store, size_t length, const call 
     case GENBANK: return of->genbank(store, length, lent->out, c->out_length);
     case MINIMAL_UNIQUE: return of->minimal_unique(store, length, lent->out, c->out_length);
     case PIECES: return of->pieces(store, length, lent->out, c->out_length);
+    case MARK: return of->mark(store, length, lent->text, c->text_length, lent->sheet, c->sheet_length, lent->out, c->out_length);
     default: return of->list(store, length, lent->text, c->text_length, lent->scratch, c->scratch_length, lent->out, c->out_length);
     }
 }
 
 int call_writes(call_kind kind)
 {
-    return kind == SPELL || kind == LIST || kind >= GENBANK;
+    return kind == SPELL || kind >= LIST;
 }
 
-/* the first number is how many bytes there are, or stretches, or pieces */
+/* the first number is how many bytes there are, or stretches, or pieces; the four counts of a sheet take as many bytes always */
 size_t call_wrote(call_kind kind, uint64_t answer)
 {
+    if (kind == MARK) return MARKS_BYTES;
     size_t each = kind == MINIMAL_UNIQUE ? STRETCH_BYTES : kind == PIECES ? PIECE_BYTES : 1;
     return call_writes(kind) ? each * mirror_first(answer) : 0;
 }

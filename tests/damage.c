@@ -17,6 +17,9 @@ enum { ROOM = 50 * 1024, STORE_SLOT = 3, IDLE_LIMIT = 100000, SMALL = 10, SMALL_
 static uint8_t good[ROOM], damaged[ROOM];
 static size_t good_length, damaged_length;
 static shown shows;
+static unsigned char list[ROOM]; /* of the good store's repeats, under the name: a sheet with full marks */
+static size_t list_length;
+static const unsigned char name[] = "rec_1", bad_name[] = "rec-1";
 static unsigned long made[2], for_header;
 
 static void stop(const char *kind, const char *what)
@@ -29,6 +32,14 @@ static void stop(const char *kind, const char *what)
 static unsigned some_capacity(void)
 {
     return random_below(20) ? 1 + random_below(random_below(2) ? 6 : 30) : 200 + random_below(825);
+}
+
+static void list_good(void)
+{
+    static stretch lines[LAYOUT_MOST];
+    size_t n = brute_list(shows.rule, shows.letters, shows.size, lines);
+    list_length = 0;
+    for (size_t i = 0; i < n; i++) list_length += (size_t)sprintf((char *)list + list_length, "%s\t%zu\t%zu\n", name, lines[i].start, lines[i].end);
 }
 
 /* a good store whose rows were taken and given back; of the letters two are partners, and some join as a pair around the whole
@@ -49,6 +60,7 @@ static void make_good(unsigned reading, unsigned capacity)
     }
     const char *wrong = judge(good, good_length, &shows);
     if (wrong) stop("a store made by calls is not good", wrong);
+    list_good();
 }
 
 /* one call on a copy of the damaged store */
@@ -62,27 +74,41 @@ static void one_call(const call *c)
  * as if it were cut */
 static size_t bytes_of(call_kind kind)
 {
-    static stretch list[LAYOUT_MOST];
+    static stretch minimal[LAYOUT_MOST];
     static size_t ends[LAYOUT_MOST];
     if (kind == GENBANK) return MIRROR_GENBANK_SIZE(shows.size);
     if (kind == PIECES) return PIECE_BYTES * brute_pieces(shows.letters, shows.size, ends);
-    return STRETCH_BYTES * brute_minimal_unique(shows.rule, shows.letters, shows.size, list);
+    return STRETCH_BYTES * brute_minimal_unique(shows.rule, shows.letters, shows.size, minimal);
+}
+
+/* the list of the good store as a sheet, whole, without its first line or without its last byte, and a mark sheet of about its size or of
+ * any */
+static void mark_list(call *c, int refused)
+{
+    c->text = refused && random_below(4) == 0 ? bad_name : name;
+    c->text_length = sizeof name - 1;
+    c->sheet = list;
+    if (list_length > 0 && random_below(3) == 0) c->sheet = (unsigned char *)memchr(list, '\n', list_length) + 1;
+    c->sheet_length = (size_t)(list + list_length - c->sheet);
+    if (refused && c->sheet_length > 0 && random_below(3) == 0) c->sheet_length--;
+    c->out_length = refused ? random_below(MARKS_BYTES + 8) : MARKS_BYTES + random_below(3);
 }
 
 /* every call, with arguments that a good store would take and with arguments that it would refuse */
 static void every_call(void)
 {
-    static const unsigned char piece[] = "ATAT", bad_piece[] = "AN", name[] = "rec_1", bad_name[] = "rec-1";
+    static const unsigned char piece[] = "ATAT", bad_piece[] = "AN";
     unsigned row = random_below((unsigned)shows.capacity + 3), letter = (unsigned)"ACGT"[random_below(4)];
     size_t out = 64 * 1024 - random_below(2), scratch = layout_scratch(shows.size);
     for (call_kind kind = ADD_LEFT; kind < CALL_KINDS; kind++) {
-        int of_row = kind == ROW || kind == FREQUENCY || kind == SPELL;
-        size_t bytes = kind >= GENBANK ? bytes_of(kind) : 0;
-        call c = {kind, kind == LETTER ? random_below((unsigned)shows.size + 1) : of_row ? row : letter, NULL, 0, 0, 0};
+        int of_row = kind == ROW || kind == FREQUENCY || kind == SPELL, writes_all = kind >= GENBANK && kind <= PIECES;
+        size_t bytes = writes_all ? bytes_of(kind) : 0;
+        call c = {.kind = kind, .number = kind == LETTER ? random_below((unsigned)shows.size + 1) : of_row ? row : letter};
         if (kind == FIND) c.text = piece, c.text_length = 1 + random_below(4);
         if (kind == SPELL) c.out_length = shows.size + random_below(3);
         if (kind == LIST) c.text = name, c.text_length = 5, c.scratch_length = scratch + random_below(3), c.out_length = out;
-        if (kind >= GENBANK) c.out_length = bytes + random_below(6);
+        if (writes_all) c.out_length = bytes + random_below(6);
+        if (kind == MARK) mark_list(&c, 0);
         one_call(&c);
         if (kind >= REMOVE_LEFT && kind < LETTER) continue; /* no argument: it would be the same call again */
         c.number = kind <= ADD_RIGHT ? letter + 256 : 65536 + row;
@@ -90,7 +116,8 @@ static void every_call(void)
         if (kind == SPELL) c.number = row, c.out_length = 0;
         if (kind == LIST) c.text = random_below(4) ? name : bad_name, c.scratch_length = scratch - (scratch > 0);
         if (kind == LIST) c.out_length = random_below(2) ? MIRROR_LIST_SIZE(shows.size) : random_below(20);
-        if (kind >= GENBANK) c.out_length = bytes > 0 && random_below(2) ? bytes - 1 : random_below((unsigned)bytes + 1);
+        if (kind == MARK) mark_list(&c, 1);
+        if (writes_all) c.out_length = bytes > 0 && random_below(2) ? bytes - 1 : random_below((unsigned)bytes + 1);
         one_call(&c);
     }
 }
@@ -100,7 +127,7 @@ static void work_on(void)
 {
     uint8_t *store = guarded(STORE_SLOT, damaged, damaged_length);
     for (int i = 0; i < 6; i++) {
-        call c = {(call_kind)(ADD_LEFT + random_below(LENGTH - ADD_LEFT)), (unsigned)"ACGT"[random_below(4)], NULL, 0, 0, 0};
+        call c = {.kind = ADD_LEFT + random_below(LENGTH - ADD_LEFT), .number = (unsigned)"ACGT"[random_below(4)]};
         oracle(store, damaged_length, &c);
     }
 }

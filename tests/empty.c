@@ -41,6 +41,19 @@ static void no_store(uint8_t *p)
     must("genbank", mirror_genbank(p, 0, p, 0), MIRROR_DAMAGED);
     must("minimal_unique", mirror_minimal_unique(p, 0, p, 0), MIRROR_DAMAGED);
     must("pieces", mirror_pieces(p, 0, p, 0), MIRROR_DAMAGED);
+    must("mark", mirror_mark(p, 0, p, 0, p, 0, p, 0), MIRROR_DAMAGED);
+}
+
+/* an empty sheet has full marks where no repeat stands, and it is a sheet; without a mark sheet it is refused all the same */
+static void no_sheet(uint8_t *p, unsigned repeats)
+{
+    uint8_t marks[MIRROR_MARKS_SIZE] = {1};
+    must("no identifier to mark by", mirror_mark(store, sizeof store, p, 0, p, 0, p, 0), MIRROR_IDENTIFIER);
+    must("no line, and no mark sheet", mirror_mark(store, sizeof store, (const uint8_t *)"e1", 2, p, 0, p, 0), MIRROR_NO_ROOM);
+    must("a line that is none", mirror_mark(store, sizeof store, (const uint8_t *)"e1", 2, (const uint8_t *)"\n", 1, p, 0), MIRROR_NO_SHEET);
+    must("no line", mirror_mark(store, sizeof store, (const uint8_t *)"e1", 2, p, 0, marks, sizeof marks), repeats ? 0 : 1 << 8);
+    must("right, repeated and wrong without a line", mirror_right(marks) + mirror_repeated(marks) + mirror_wrong(marks), 0);
+    must("missing without a line", mirror_missing(marks), repeats);
 }
 
 /* every other buffer empty at p, with an empty record and with one of a letter */
@@ -54,12 +67,14 @@ static void no_buffer(uint8_t *p)
     must("print an empty record", mirror_genbank(store, sizeof store, p, 0), MIRROR_NO_ROOM);
     must("no minimal unique repeat of nothing", mirror_minimal_unique(store, sizeof store, p, 0), 0);
     must("no piece of nothing", mirror_pieces(store, sizeof store, p, 0), 0);
+    no_sheet(p, 0);
     mirror_add_right(store, sizeof store, 'A');
     must("print a letter", mirror_genbank(store, sizeof store, p, 0), MIRROR_NO_ROOM);
     must("a letter that stands once", mirror_minimal_unique(store, sizeof store, p, 0), MIRROR_NO_ROOM);
     must("a letter as a piece", mirror_pieces(store, sizeof store, p, 0), MIRROR_NO_ROOM);
     must("spell a letter", mirror_spell(store, sizeof store, 2, p, 0), MIRROR_NO_ROOM);
     must("list a letter", mirror_list(store, sizeof store, (const uint8_t *)"e1", 2, p, 0, p, 0), MIRROR_NO_ROOM);
+    no_sheet(p, 1);
 }
 
 /* an inverted record of a letter has no repeat: it is listed with scratch and no output, and none is minimal unique; it is not cut, and
@@ -75,6 +90,7 @@ static void no_repeat(uint8_t *p)
     must("no output", mirror_list(store, sizeof store, (const uint8_t *)"e1", 2, scratch, sizeof scratch, p, 0), 0);
     must("no minimal unique repeat", mirror_minimal_unique(store, sizeof store, p, 0), 0);
     must("pieces of an inverted letter", mirror_pieces(store, sizeof store, p, 0), MIRROR_INVERTED);
+    no_sheet(p, 0);
 }
 
 /* texts and letters at p */

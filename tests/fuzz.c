@@ -7,7 +7,8 @@
  * two bytes do one of the kinds of damages.c, ~ takes the last good store again, / and a byte change the length lent, @ and a
  * byte open again, & and a byte open an inverted record, p and i turn to the plain and to the inverted reading, % and four bytes
  * find a repeat of the record, or any stretch of it, with one letter changed, u and some bytes ask for the lengths of an uncertain
- * text. Any other byte is added as a letter that is none. A missing argument is 0. */
+ * text, m and some bytes mark a sheet: the record's own list, the same with a byte changed, lines, or bytes as they are. Any other byte
+ * is added as a letter that is none. A missing argument is 0. */
 #include "damages.h"
 #include "guard.h"
 #include "oracle.h"
@@ -17,7 +18,7 @@
 #include <stdlib.h>
 #include <string.h>
 
-enum { ROOM = 60 * 1024, STORE_SLOT = 3, CODES_SLOT, TEXT = 40 };
+enum { ROOM = 60 * 1024, STORE_SLOT = 3, CODES_SLOT, TEXT = 40, LINES = 28 };
 
 int LLVMFuzzerTestOneInput(const uint8_t *data, size_t size);
 
@@ -35,7 +36,7 @@ static unsigned next(void)
 
 static void make(call_kind kind, uint64_t number)
 {
-    call c = {kind, number, NULL, 0, 0, 0};
+    call c = {.kind = kind, .number = number};
     oracle(store, length, &c);
 }
 
@@ -50,7 +51,7 @@ static void ask(void)
 {
     unsigned char text[TEXT];
     unsigned what = next();
-    call c = {(call_kind)(LENGTH + what % (CALL_KINDS - LENGTH)), 0, text, 0, 0, 0};
+    call c = {.kind = LENGTH + what % (MARK - LENGTH), .text = text}; /* a sheet has a letter of its own */
     if (c.kind >= LETTER && c.kind <= SPELL) c.number = what < 128 ? next() : (uint64_t)next() << (what % 57); /* a place or a row */
     if (c.kind != LIST && call_writes(c.kind)) c.out_length = room();
     if (c.kind == FIND || c.kind == LIST) {
@@ -76,7 +77,7 @@ static void ask_near(void)
     for (size_t i = 0; i < n; i++) text[2 * n - 1 - i] = s.rule[text[i]];
     if (more % 2) n *= 2;
     text[place % n] = (unsigned char)"ACGT"[letter % 4];
-    call c = {FIND, 0, text, n, 0, 0};
+    call c = {.kind = FIND, .text = text, .text_length = n};
     oracle(store, length, &c);
 }
 
@@ -100,6 +101,52 @@ static void ask_codes(void)
     printf("uncertain %.*s, again and again to %zu codes: wanted %llx, got %llx%s\n", (int)of, (char *)part, n, (unsigned long long)wanted,
            (unsigned long long)got, stays ? "" : ", and a byte of the text changed");
     abort();
+}
+
+static size_t put_line(unsigned char *sheet, const call *c, size_t start, size_t end)
+{
+    memcpy(sheet, c->text, c->text_length);
+    return c->text_length + (size_t)sprintf((char *)sheet + c->text_length, "\t%zu\t%zu\n", start, end);
+}
+
+/* the list of the repeats that a good store shows, no line where it is not good */
+static size_t own_list(unsigned char *sheet, const call *c)
+{
+    static shown s;
+    stretch list[LINES];
+    size_t n = judge(store, length, &s) == NULL && s.size <= LINES ? brute_list(s.rule, s.letters, s.size, list) : 0, bytes = 0;
+    for (size_t i = 0; i < n; i++) bytes += put_line(sheet + bytes, c, list[i].start, list[i].end);
+    return bytes;
+}
+
+/* a few lines of two bytes each, or bytes as they are, many of which mean something in a line */
+static size_t some_lines(unsigned char *sheet, const call *c, int as_they_are)
+{
+    static const char meant[] = "\t\n\t\n0123456789e1";
+    size_t n = next() % LINES, bytes = 0;
+    for (size_t i = 0; i < n; i++) {
+        unsigned start = next(), end = as_they_are ? 0 : next();
+        if (as_they_are) sheet[bytes++] = start < 192 ? (unsigned char)meant[start % (sizeof meant - 1)] : (unsigned char)start;
+        else bytes += put_line(sheet + bytes, c, start < 250 ? start % LINES : 4 * start, end < 250 ? end % LINES : 4 * end);
+    }
+    return bytes;
+}
+
+/* A sheet. The first byte says of which kind it is and, from 128 on, that an identifier follows, which is e1 otherwise; the second how
+ * long the mark sheet is. */
+static void ask_marks(void)
+{
+    unsigned char sheet[LINES * (TEXT + 12)], text[TEXT] = "e1";
+    unsigned what = next(), kind = what % 4;
+    call c = {.kind = MARK, .text = text, .text_length = 2, .sheet = sheet, .out_length = next() % (MARKS_BYTES + 8)};
+    if (what >= 128) c.text_length = next() % TEXT;
+    for (size_t i = 0; what >= 128 && i < c.text_length; i++) text[i] = (unsigned char)next();
+    c.sheet_length = kind < 2 ? own_list(sheet, &c) : some_lines(sheet, &c, kind == 3);
+    if (kind == 1 && c.sheet_length > 0) {
+        size_t high = next(), at = (256 * high + next()) % c.sheet_length;
+        sheet[at] = (unsigned char)next();
+    }
+    oracle(store, length, &c);
 }
 
 /* damage that needs a good store to start from; what was good is kept for ~ */
@@ -141,6 +188,7 @@ static void one(unsigned what)
     case '?': ask(); break;
     case '%': ask_near(); break;
     case 'u': ask_codes(); break;
+    case 'm': ask_marks(); break;
     case '!': at = (next() * 256 + next()) % whole; store[at] = (uint8_t)next(); break;
     case '=': at = next() % 26; what = next(); layout_put(store, at % (whole / 48), what % ROW_CELLS, next()); break;
     case '#': spoil(); break;
@@ -179,7 +227,7 @@ static void run(FILE *in)
 /* inputs that look random, mostly of bytes that mean something */
 static void run_random(const char *seed, int rounds)
 {
-    static const char meant[] = "acgtACGTacgtACGT<>?%#~!=/@&piu";
+    static const char meant[] = "acgtACGTacgtACGT<>?%#~!=/@&pium";
     uint8_t data[200];
     for (int i = 0; i < rounds; i++) {
         random_seed(NULL, strtoull(seed, NULL, 10) * 1000003u + 2u * (unsigned)i + 1);

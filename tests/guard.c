@@ -6,7 +6,7 @@
 #include <sys/mman.h>
 #include <unistd.h>
 
-enum { SLOTS = 7, ROOM = 1024 * 1024 };
+enum { SLOTS = 7, ROOM = 8 * 1024 * 1024 };
 
 static guard_place where = GUARD_AFTER;
 

@@ -40,7 +40,7 @@ static void expect(const char *what, guard_place place, size_t n, long at, int w
 
 int main(void)
 {
-    static const size_t sizes[] = {1, 7, 304, 4096, 49408, 1000000};
+    static const size_t sizes[] = {1, 7, 304, 4096, 49408, 1000000, 7000000};
     for (size_t i = 0; i < sizeof sizes / sizeof sizes[0]; i++) {
         size_t n = sizes[i];
         expect("ends at a guard", GUARD_AFTER, n, (long)n, 1);

@@ -4,8 +4,9 @@
  * the keys of inverted records that 02 (vi) and source 004 have, records that are turned, 02 (vii), how many repeats of each
  * length a store carries, 02 (ii), what additions report of their search, 02 (xiii), where a piece breaks, 02 (x), how much
  * scratch the list takes, 02 (ix), how often repeats stand, 02 (iii), the minimal unique repeats, 02 (viii), the fewest pieces,
- * 02 (xiv), the two lengths of texts of uncertain bases, 02 (xii), which uncertain_keys.c has, and the record printed as in GenBank,
- * 02 (iv), each page written out here byte by byte. Keys that ask for no repeat are run with either opening. */
+ * 02 (xiv), the two lengths of texts of uncertain bases, 02 (xii), which uncertain_keys.c has, what candidates' sheets are worth, 02 (xi),
+ * and the record printed as in GenBank, 02 (iv), each page written out here byte by byte. Keys that ask for no repeat are run with either
+ * opening. */
 #include "mirror.h"
 #include "uncertain_keys.h"
 #include <ctype.h>
@@ -1083,6 +1084,237 @@ static void uncertain_texts(void)
     uncertain_at_the_limit();
 }
 
+/* ---- candidates' sheets, 02 (xi) */
+
+/* a sheet as a text that may hold zero bytes, and how many bytes it has */
+#define SHEET(text) text, sizeof text - 1
+#define NAME_OF_31 "abcdefghijklmnopqrstuvwxyz_0123"
+
+/* the key of a sheet: its number and, where that is 0, how many are right, repeated, wrong and missing */
+typedef struct { unsigned number; uint64_t counts[4]; } marks_key;
+
+static uint64_t mark(const char *name, const char *sheet, size_t bytes, uint8_t *marks, size_t room)
+{
+    return mirror_mark(store, length, (const uint8_t *)name, strlen(name), (const uint8_t *)sheet, bytes, marks, room);
+}
+
+/* full marks: none repeated, wrong or missing */
+static uint64_t full_marks(marks_key of)
+{
+    return (uint64_t)(of.counts[1] == 0 && of.counts[2] == 0 && of.counts[3] == 0) << 8;
+}
+
+/* what marking answers and leaves in each room, whatever the mark sheet held: eight bytes for each count, low byte first. A mark sheet that is
+ * too small is told only where the sheet is one */
+static void marked(const char *name, const char *sheet, size_t bytes, marks_key of)
+{
+    static const size_t rooms[] = {0, 1, 31, 32, 33, 40};
+    for (size_t k = 0; k < sizeof rooms / sizeof rooms[0]; k++) {
+        uint8_t marks[41], wanted[41];
+        unsigned refusal = of.number ? of.number : rooms[k] < 32 ? 9 : 0;
+        memset(marks, k % 2 ? '?' : 0xff, sizeof marks);
+        memcpy(wanted, marks, sizeof marks);
+        for (size_t i = 0; refusal == 0 && i < 32; i++) wanted[i] = (uint8_t)(of.counts[i / 8] >> 8 * (i % 8));
+        key("whether it has full marks, or its refusal", refusal ? refusal : full_marks(of), mark(name, sheet, bytes, marks, rooms[k]));
+        key("a byte of the mark sheet", 0, memcmp(wanted, marks, sizeof marks) != 0);
+    }
+}
+
+/* the sheets of known_answers that are accepted: the record's own list and the same from the last line up; A at its second place, and again at
+ * its third; stretches that are none; identifiers that do not agree, and then one that does; no line; inverted records. Behind them: the same
+ * letters plain, a line too many, repeated or wrong, one too few, and records of few letters with many places */
+static void marks_of_sheets(uint64_t capacity, int from_left)
+{
+    static const struct { opening *open; const char *letters, *sheet; size_t bytes; marks_key of; } keys[] = {
+        {mirror_open, "ACGAAG", SHEET("e1\t0\t1\ne1\t1\t2\ne1\t2\t3\ne1\t3\t5\ne1\t2\t6\n"), {0, {5, 0, 0, 0}}},
+        {mirror_open, "ACGAAG", SHEET("e1\t2\t6\ne1\t3\t5\ne1\t2\t3\ne1\t1\t2\ne1\t0\t1\n"), {0, {5, 0, 0, 0}}},
+        {mirror_open, "ACGAAG", SHEET("e1\t3\t4\ne1\t4\t5\ne1\t0\t2\n"), {0, {1, 1, 1, 4}}},
+        {mirror_open, "AA", SHEET("e1\t1\t1\ne1\t2\t1\ne1\t0\t3\ne1\t0\t9999\n"), {0, {0, 0, 4, 2}}},
+        {mirror_open, "AA", SHEET("\t0\t1\n \r\0\xff\t0\t1\ne\t0\t1\ne1\t0\t1\ne1\t0\t2\n"), {0, {2, 0, 3, 0}}},
+        {mirror_open, "", SHEET(""), {0, {0, 0, 0, 0}}},
+        {mirror_open, "AA", SHEET(""), {0, {0, 0, 0, 2}}},
+        {mirror_open_inverted, "AA", SHEET(""), {0, {0, 0, 0, 0}}},
+        {mirror_open_inverted, "GAATTC", SHEET("e1\t0\t6\ne1\t1\t5\ne1\t2\t4\n"), {0, {3, 0, 0, 0}}},
+        {mirror_open_inverted, "GAATTC", SHEET("e1\t0\t6\ne1\t0\t1\n"), {0, {1, 0, 1, 2}}},
+        {mirror_open, "GAATTC", SHEET("e1\t0\t6\ne1\t1\t5\ne1\t2\t4\n"), {0, {0, 0, 3, 6}}},
+        {mirror_open, "AA", SHEET("e1\t0\t1\ne1\t0\t2\ne1\t1\t2\n"), {0, {2, 1, 0, 0}}},
+        {mirror_open, "AA", SHEET("e1\t0\t1\ne1\t0\t2\ne1\t0\t3\n"), {0, {2, 0, 1, 0}}},
+        {mirror_open, "AA", SHEET("e1\t0\t2\n"), {0, {1, 0, 0, 1}}},
+        {mirror_open, "AAAAAA", SHEET("e1\t4\t6\ne1\t0\t2\ne1\t5\t6\ne1\t1\t6\ne1\t0\t5\ne1\t0\t6\n"), {0, {4, 2, 0, 2}}},
+        {mirror_open, "ACAACA", SHEET("e1\t3\t6\ne1\t0\t3\ne1\t2\t4\ne1\t1\t5\ne1\t0\t4\ne1\t5\t6\n"), {0, {4, 1, 1, 2}}}};
+    for (size_t i = 0; i < sizeof keys / sizeof keys[0]; i++) {
+        record(keys[i].open, keys[i].letters, capacity, from_left);
+        marked("e1", keys[i].sheet, keys[i].bytes, keys[i].of);
+    }
+}
+
+/* those that are refused: the last line without its LF, an empty line, CR LF, two fields, four, an empty number, a needless zero, five digits,
+ * a sign, an LF alone; and more of each kind, before and behind a line that is right */
+static void sheets_that_are_none(void)
+{
+    static const struct { const char *sheet; size_t bytes; } keys[] = {
+        {SHEET("e1\t0\t1")}, {SHEET("e1\t0\t1\n\n")}, {SHEET("e1\t0\t1\r\n")}, {SHEET("e1\t0\n")}, {SHEET("e1\t0\t1\t1\n")},
+        {SHEET("e1\t\t1\n")}, {SHEET("e1\t0\t01\n")}, {SHEET("e1\t0\t10000\n")}, {SHEET("e1\t+0\t1\n")}, {SHEET("\n")},
+        {SHEET("\n\ne1\t0\t1\n")}, {SHEET("e1\t0\t1\n ")}, {SHEET("e1\t0\t1\ne1\t0\t2")}, {SHEET("e1\t0\t1\n\0")}, {SHEET("e1\n")},
+        {SHEET("\t\n")}, {SHEET("\t\t\n")}, {SHEET("\t\t\t\n")}, {SHEET("e1\t0\t1\t\n")}, {SHEET("\te1\t0\t1\n")},
+        {SHEET("e1\t\t0\t1\n")}, {SHEET("e1\t0\t\n")}, {SHEET("e1\t00\t1\n")}, {SHEET("e1\t0000\t1\n")}, {SHEET("e1\t10000\t1\n")},
+        {SHEET("e1\t0\t0001\n")}, {SHEET("e1\t0\t-1\n")}, {SHEET("e1\t0\t1 \n")}, {SHEET("e1\t 0\t1\n")}, {SHEET("e1\t0\t1.\n")},
+        {SHEET("e1\t0x0\t1\n")}, {SHEET("e1\t0\t1e0\n")}, {SHEET("e1 0 1\n")}, {SHEET("track\ne1\t0\t1\n")},
+        {SHEET("e2\t0\t1\ne2\t0\t01\n")}, {SHEET("e1\t0\t1\0\n")}, {SHEET("e1\t0\t99999999999999999999\n")}};
+    record(mirror_open, "AA", 8, 0);
+    for (size_t i = 0; i < sizeof keys / sizeof keys[0]; i++) {
+        sitting = keys[i].sheet;
+        marked("e1", keys[i].sheet, keys[i].bytes, (marks_key){13, {0}});
+    }
+}
+
+/* every byte as an identifier and as either number, on AAAA: tabs and LFs make other fields and lines, and of numbers there are ten */
+static void marks_of_bytes(void)
+{
+    record(mirror_open, "AAAA", 4, 0);
+    for (int b = 0; b < 256; b++) {
+        int none = b < '0' || b > '9', right_start = b < '4', right_end = b > '0' && b < '5';
+        char sheet[] = "e\t0\t1\n";
+        sheet[0] = (char)b;
+        marked("e", SHEET(sheet), (marks_key){b == '\t' || b == '\n' ? 13 : 0, {b == 'e', 0, b != 'e', 4 - (b == 'e')}});
+        sheet[0] = 'e', sheet[2] = (char)b, sheet[4] = '4';
+        marked("e", SHEET(sheet), (marks_key){none ? 13 : 0, {(uint64_t)right_start, 0, (uint64_t)!right_start, 4 - (uint64_t)right_start}});
+        sheet[2] = '0', sheet[4] = (char)b;
+        marked("e", SHEET(sheet), (marks_key){none ? 13 : 0, {(uint64_t)right_end, 0, (uint64_t)!right_end, 4 - (uint64_t)right_end}});
+    }
+}
+
+/* identifiers of 1 and of 32 bytes agree with their lines and no others; 0 and 33 bytes, and what is no letter, digit or underscore, get 10,
+ * and so does what would be one up to a zero byte */
+static void marks_of_identifiers(void)
+{
+    static const char sheet[] = "e\t0\t1\n" "E\t0\t1\n" NAME_OF_31 "4\t0\t1\n" NAME_OF_31 "45\t0\t1\n" NAME_OF_31 "\t0\t1\n" NAME_OF_31 "5\t0\t1\n";
+    static const char *const none[] = {"", NAME_OF_31 "45", "e-1", "e 1", "e.1", "e1\n", "\t", "\xe9", "e1/"};
+    uint8_t marks[32];
+    record(mirror_open, "A", 1, 0);
+    marked("e", SHEET(sheet), (marks_key){0, {1, 0, 5, 0}});
+    marked("E", SHEET(sheet), (marks_key){0, {1, 0, 5, 0}});
+    marked(NAME_OF_31 "4", SHEET(sheet), (marks_key){0, {1, 0, 5, 0}});
+    marked("ee", SHEET(sheet), (marks_key){0, {0, 0, 6, 1}});
+    marked("_", SHEET("_\t0\t1\n"), (marks_key){0, {1, 0, 0, 0}});
+    for (size_t i = 0; i < sizeof none / sizeof none[0]; i++) {
+        marked(none[i], SHEET(sheet), (marks_key){10, {0}});
+        marked(none[i], SHEET("no sheet"), (marks_key){10, {0}});
+    }
+    key("an identifier with a zero byte", 10, mirror_mark(store, length, (const uint8_t *)"e\0", 2, (const uint8_t *)sheet, 0, marks, 32));
+}
+
+/* 3, 10, 13, 9 in this order, each with all that come behind it; then the mark sheet's counts, which are kept until a sheet is accepted */
+static void refusals_of_marking(opening *open)
+{
+    static const char one[] = "e1\t1\t2\ne1\t1\t2\ne1\t0\t1\n", none[] = "e1\t1\t2";
+    uint8_t marks[32], kept[32];
+    record(open, "ACGT", 8, 0);
+    key("a first sheet", 0, mark("e1", SHEET(one), marks, 32));
+    memcpy(kept, marks, 32);
+    store[24 * 10 + 2] = 'g'; /* the third letter, by docs/LAYOUT.md */
+    key("a store that is not good", 3, mark("", SHEET(none), marks, 31));
+    store[24 * 10 + 2] = 'G';
+    length--;
+    key("a store too short", 3, mark("", SHEET(none), marks, 31));
+    length++;
+    memcpy(before, store, sizeof store);
+    key("an identifier that is none", 10, mark("", SHEET(none), marks, 31));
+    key("a sheet that is none", 13, mark("e1", SHEET(none), marks, 31));
+    key("a mark sheet too small", 9, mark("e1", SHEET(one), marks, 31));
+    key("the former counts", 0, memcmp(marks, kept, 32) != 0);
+    key("the store stays", 0, memcmp(before, store, sizeof store) != 0);
+    key("right", open == mirror_open ? 2 : 0, mirror_right(marks));
+    key("repeated", open == mirror_open, mirror_repeated(marks));
+    key("wrong", open == mirror_open ? 0 : 3, mirror_wrong(marks));
+    key("missing", 2, mirror_missing(marks));
+    key("another sheet", 0, mark("e1", SHEET("e1\t0\t9\n"), marks, 32));
+    key("right, and not more than that", 0, mirror_right(marks) + mirror_repeated(marks));
+    key("wrong, and not more than that", 1, mirror_wrong(marks));
+    key("missing, and not more than that", open == mirror_open ? 4 : 2, mirror_missing(marks));
+}
+
+/* letters come and go at either end, and a turn changes what is right */
+static void marks_of_changes(uint64_t capacity)
+{
+    record(mirror_open, "ACGAAG", capacity, 0);
+    goes(0, 'G', "GAAG");
+    marked("e1", SHEET("e1\t0\t1\ne1\t1\t2\ne1\t2\t3\ne1\t3\t5\ne1\t2\t6\n"), (marks_key){0, {4, 0, 1, 0}});
+    goes(1, 'A', NULL);
+    marked("e1", SHEET("e1\t0\t1\ne1\t1\t2\ne1\t2\t4\ne1\t2\t3\n"), (marks_key){0, {4, 0, 0, 0}});
+    goes(1, 'C', "C");
+    marked("e1", SHEET("e1\t0\t1\ne1\t1\t2\ne1\t2\t4\ne1\t2\t3\n"), (marks_key){0, {2, 1, 1, 1}});
+    key("GAAT", 1, mirror_flag(mirror_add_right(store, length, 'T')));
+    key("GAATT", 1, mirror_flag(mirror_add_right(store, length, 'T')));
+    key("GAATTC", 1, mirror_flag(mirror_add_right(store, length, 'C')));
+    for (int round = 0; round < 2; round++) {
+        marked("e1", SHEET("e1\t0\t1\ne1\t2\t3\ne1\t1\t3\ne1\t4\t5\ne1\t3\t5\ne1\t5\t6\n"), (marks_key){0, {6, 0, 0, 0}});
+        marked("e1", SHEET("e1\t2\t4\ne1\t1\t5\ne1\t0\t6\n"), (marks_key){0, {0, 0, 3, 6}});
+        key("turn inverted", 0, mirror_turn_inverted(store, length));
+        marked("e1", SHEET("e1\t2\t4\ne1\t1\t5\ne1\t0\t6\n"), (marks_key){0, {3, 0, 0, 0}});
+        marked("e1", SHEET("e1\t0\t1\ne1\t2\t3\ne1\t1\t3\ne1\t4\t5\ne1\t3\t5\ne1\t5\t6\n"), (marks_key){0, {0, 0, 6, 3}});
+        key("turn plain", 0, mirror_turn_plain(store, length));
+    }
+}
+
+/* a full record: 1,024 A with its own list, each repeat at its first place, and with each at its last; numbers about the length and above it */
+static void marks_of_full_records(int from_left)
+{
+    static char sheet[16 * 1024];
+    char letters[1025] = "";
+    int n = 0;
+    memset(letters, 'A', 1024);
+    record(mirror_open, letters, 1024, from_left);
+    sitting = "1,024 A";
+    for (int i = 1; i <= 1024; i++) n += sprintf(sheet + n, "e1\t0\t%d\n", i);
+    marked("e1", sheet, (size_t)n, (marks_key){0, {1024, 0, 0, 0}});
+    marked("e1", sheet, (size_t)n - 10, (marks_key){0, {1023, 0, 0, 1}});
+    marked("e1", sheet, (size_t)n - 1, (marks_key){13, {0}});
+    marked("e2", sheet, (size_t)n, (marks_key){0, {0, 0, 1024, 1024}});
+    n = 0;
+    for (int i = 1; i <= 1024; i++) n += sprintf(sheet + n, "e1\t%d\t1024\n", 1024 - i);
+    marked("e1", sheet, (size_t)n, (marks_key){0, {1024, 0, 0, 0}});
+    marked("e1", SHEET("e1\t0\t1023\ne1\t1\t1024\ne1\t1022\t1023\ne1\t1023\t1024\ne1\t0\t1024\n"), (marks_key){0, {3, 2, 0, 1021}});
+    marked("e1", SHEET("e1\t0\t1025\ne1\t1024\t1025\ne1\t1024\t1024\ne1\t9999\t9999\ne1\t0\t9999\ne1\t9999\t0\n"), (marks_key){0, {0, 0, 6, 1024}});
+    for (size_t i = 0; i < 1024; i++) letters[i] = "ACG"[i % 3];
+    record(mirror_open, letters, 1024, from_left);
+    sitting = "ACG again and again";
+    marked("e1", SHEET("e1\t1023\t1024\ne1\t1022\t1023\ne1\t1021\t1022\n"), (marks_key){0, {3, 0, 0, 0}});
+    marked("e1", SHEET("e1\t1023\t1024\ne1\t1021\t1024\ne1\t1020\t1021\n"), (marks_key){0, {1, 1, 1, 2}});
+}
+
+/* a run of A, a C and a run of A: each repeat named at its last place, where a short one stands at the end of many longer ones; of 1,024 letters,
+ * then of 11, and of these each stretch of A behind the C a second time */
+static void marks_at_last_places(int from_left)
+{
+    static char sheet[16 * 1024];
+    char letters[1025] = "";
+    int n = 0;
+    memset(letters, 'A', 1024);
+    letters[700] = 'C';
+    record(mirror_open, letters, 1024, from_left);
+    sitting = "700 A, C, 323 A";
+    for (int i = 1; i <= 700; i++) n += sprintf(sheet + n, "e1\t%d\t%d\n", (i <= 323 ? 1024 : 700) - i, i <= 323 ? 1024 : 700);
+    for (int i = 0; i <= 323; i++) n += sprintf(sheet + n, "e1\t%d\t%d\n", 700 - i, 701 + i);
+    marked("e1", sheet, (size_t)n, (marks_key){0, {1024, 0, 0, 0}});
+    record(mirror_open, "AAAAAAACAAA", 12, from_left);
+    marked("e1", SHEET("e1\t10\t11\ne1\t9\t11\ne1\t8\t11\ne1\t3\t7\ne1\t2\t7\ne1\t1\t7\ne1\t0\t7\ne1\t7\t8\ne1\t6\t9\ne1\t5\t10\ne1\t4\t11\n"),
+           (marks_key){0, {11, 0, 0, 0}});
+    marked("e1", SHEET("e1\t8\t9\ne1\t8\t10\ne1\t8\t11\ne1\t9\t10\ne1\t9\t11\ne1\t10\t11\ne1\t7\t11\n"), (marks_key){0, {3, 3, 1, 8}});
+}
+
+/* more lines than two bytes can count: one right and 66,051 repeated, then 66,565 wrong */
+static void marks_of_many_lines(void)
+{
+    enum { NAMED = 66052, OTHER = 66565, BYTES = 7 };
+    static char sheet[(NAMED + OTHER) * BYTES + 1];
+    record(mirror_open, "A", 1, 0);
+    for (size_t i = 0; i < NAMED + OTHER; i++) memcpy(sheet + BYTES * i, i < NAMED ? "e1\t0\t1\n" : "e1\t0\t2\n", BYTES);
+    marked("e1", sheet, (NAMED + OTHER) * BYTES, (marks_key){0, {1, 66051, 66565, 0}});
+    marked("e1", sheet, (NAMED + OTHER) * BYTES + 1, (marks_key){13, {0}});
+    marked("e2", sheet, (NAMED + OTHER) * BYTES, (marks_key){0, {0, 0, 132617, 1}});
+}
+
 /* ---- printed as in GenBank, 02 (iv) */
 
 /* the first n of these letters as a record, and its page; the page is the same in either reading */
@@ -1200,6 +1432,7 @@ static void from_either_end(uint64_t capacity, int from_left)
     pieces_of_short_records(capacity, from_left);
     if (capacity >= 14) pieces_of_longer_records(capacity, from_left);
     pieces_of_inverted_records(capacity, from_left);
+    marks_of_sheets(capacity, from_left);
 }
 
 static void at_capacity(uint64_t capacity)
@@ -1212,6 +1445,7 @@ static void at_capacity(uint64_t capacity)
     rows_without_places(capacity);
     minimal_of_changes(capacity);
     pieces_of_changes(capacity);
+    marks_of_changes(capacity);
 }
 
 int main(void)
@@ -1221,12 +1455,15 @@ int main(void)
         either_reading(openings[i]);
         empty_turned(i);
         scratch_of_lists(openings[i]);
+        refusals_of_marking(openings[i]);
     }
     for (size_t k = 0; k < sizeof capacities / sizeof capacities[0]; k++) at_capacity(capacities[k]);
     for (int from_left = 0; from_left < 2; from_left++) {
         most_places(from_left);
         minimal_of_full_records(from_left);
         pieces_of_full_records(from_left);
+        marks_of_full_records(from_left);
+        marks_at_last_places(from_left);
     }
     places_of_rows_taken_again(2);
     places_of_pairs();
@@ -1235,6 +1472,10 @@ int main(void)
     record(mirror_open, "A", 1, 0);
     pieces("1");
     uncertain_texts();
+    sheets_that_are_none();
+    marks_of_bytes();
+    marks_of_identifiers();
+    marks_of_many_lines();
     lengths_of_pages();
     longest_of_all();
     longest_search();

@@ -1,5 +1,5 @@
 /* The store's bytes by docs/LAYOUT.md, for the tests that look into a store, and by docs/HOST.md the list's scratch and the bytes of
- * a list of minimal unique repeats and of pieces: nothing here comes from the library or its header. */
+ * a list of minimal unique repeats, of pieces and of marks: nothing here comes from the library or its header. */
 #ifndef LAYOUT_H
 #define LAYOUT_H
 #include <stddef.h>
@@ -52,7 +52,7 @@ static inline size_t layout_scratch(size_t letters)
     return letters / 8 + (letters % 8 > 0);
 }
 
-enum { STRETCH_BYTES = 4, PIECE_BYTES = 2 };
+enum { STRETCH_BYTES = 4, PIECE_BYTES = 2, MARKS_BYTES = 32 };
 
 /* the i-th stretch of a list of minimal unique repeats: its start and its end */
 static inline void layout_stretch(uint8_t *out, size_t i, size_t start, size_t end)

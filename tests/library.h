@@ -17,7 +17,7 @@
     X(LENGTH, length) X(COUNT, count) X(LONGEST, longest) X(LONGEST_LENGTH, longest_length)                       \
     X(LONGEST_LEFT, longest_left) X(LONGEST_RIGHT, longest_right) X(OCCURRENCES, occurrences)                     \
     X(LETTER, letter) X(ROW, row) X(FREQUENCY, frequency) X(SPELL, spell) X(FIND, find) X(LIST, list)             \
-    X(GENBANK, genbank) X(MINIMAL_UNIQUE, minimal_unique) X(PIECES, pieces)
+    X(GENBANK, genbank) X(MINIMAL_UNIQUE, minimal_unique) X(PIECES, pieces) X(MARK, mark)
 
 /* the calls that take a text and no store */
 #define EACH_TEXT_CALL(X) X(FASTA, fasta) X(UNCERTAIN, uncertain)

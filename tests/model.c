@@ -3,12 +3,13 @@
 #include "layout.h"
 #include "mirror.h"
 #include "oracle.h"
+#include "second_marker.h"
 #include "second_page.h"
 #include <stdio.h>
 #include <stdlib.h>
 #include <string.h>
 
-enum { SHORT = 48, MIDDLING = 200, PIECE_SLOT = 0, OUT_SLOT, SCRATCH_SLOT, STORE_SLOT, REMADE_SLOT };
+enum { SHORT = 48, MIDDLING = 200, PIECE_SLOT = 0, OUT_SLOT, SCRATCH_SLOT, STORE_SLOT, REMADE_SLOT, SHEET_SLOT };
 
 unsigned long model_sittings, model_calls, model_turns, model_facts, model_falls[READINGS][MODEL_FALLS], model_upward[READINGS];
 
@@ -238,6 +239,74 @@ static void listed(const char *text, size_t size, const uint8_t *name, size_t na
     }
 }
 
+typedef uint64_t writing(const uint8_t *, size_t, uint8_t *, size_t);
+
+/* a question that writes bytes: into a byte too few, if there are any, into just these bytes, and with some to spare */
+static void ask_written(const char *what, writing *call, uint64_t answer, const uint8_t *bytes, size_t n)
+{
+    for (size_t room = n - (n > 0); room <= n + 2; room++) {
+        uint8_t *out = guard_room(OUT_SLOT, room);
+        size_t written = room < n ? 0 : n;
+        memset(out, 5, room);
+        same(what, room < n ? 9 : answer, call(store, store_length, out, room));
+        for (size_t i = 0; i < room; i++) same(what, i < written ? bytes[i] : 5, out[i]); /* nothing beyond, or after a refusal */
+    }
+}
+
+/* what is marked, and under which identifier */
+static struct { const uint8_t *name, *sheet; size_t name_length, sheet_length; } marking;
+
+static uint64_t mark_now(const uint8_t *in, size_t bytes, uint8_t *out, size_t room)
+{
+    return mirror_mark(in, bytes, marking.name, marking.name_length, marking.sheet, marking.sheet_length, out, room);
+}
+
+static void marked(const char *what, const char *sheet, size_t size, second_counts counts, int full)
+{
+    uint8_t bytes[MARKS_BYTES];
+    marking.sheet = guarded(SHEET_SLOT, (const unsigned char *)sheet, size);
+    marking.sheet_length = size;
+    second_mark_bytes(counts, bytes);
+    ask_written(what, mark_now, packed((unsigned)full, 0, 0, 0), bytes, MARKS_BYTES);
+}
+
+static size_t put_line(char *sheet, size_t start, size_t end)
+{
+    return (size_t)sprintf(sheet, "%.*s\t%zu\t%zu\n", (int)marking.name_length, (const char *)marking.name, start, end);
+}
+
+/* the repeat once more, where it stands last */
+static size_t put_last_place(char *sheet, stretch at)
+{
+    size_t bytes = at.end - at.start, last = length - bytes;
+    while (memcmp(letters + last, letters + at.start, bytes) != 0) last--;
+    return put_line(sheet, last, last + bytes);
+}
+
+/* The record's own list has full marks. In turn, without the lines before one, with each line again, with a line that is wrong, and with
+ * all of these, it has the marks that follow; with a last line that is none it is refused, and so is an identifier that is none. */
+static void ask_marks(const stretch *list, size_t n, const char *text, size_t size, const uint8_t *name, size_t name_length)
+{
+    static char sheet[128 * 1024];
+    unsigned turn = model_calls % 4;
+    size_t from = n > 0 && turn % 3 == 0 ? model_calls % n : 0, twice = turn & 1 ? n - from : 0, wrong = turn >= 2, written = 0;
+    marking.name = name;
+    marking.name_length = name_length;
+    marked("marks of the record's own list", text, size, (second_counts){n, 0, 0, 0}, 1);
+    for (size_t i = from; i < n; i++) {
+        written += put_line(sheet + written, list[i].start, list[i].end);
+        if (twice) written += put_last_place(sheet + written, list[i]);
+    }
+    if (wrong) written += put_line(sheet + written, length, length + 1);
+    marked("marks of another sheet", sheet, written, (second_counts){n - from, twice, wrong, from}, from + twice + wrong == 0);
+    written += put_line(sheet + written, 0, 1);
+    marking.sheet = guarded(SHEET_SLOT, (const unsigned char *)sheet, written - 1);
+    marking.sheet_length = written - 1;
+    ask_written("marks of a line without its end", mark_now, 13, NULL, 0);
+    marking.name_length = 0;
+    ask_written("marks without an identifier", mark_now, 10, NULL, 0);
+}
+
 static void ask_list(void)
 {
     static stretch list[MODEL_MOST];
@@ -251,21 +320,9 @@ static void ask_list(void)
         if (known(letters + list[i].start, list[i].end - list[i].start) < 0) fail("a repeat came in unseen", i, 0);
         size += (size_t)sprintf(text + size, "%.*s\t%zu\t%zu\n", (int)name_length, name, list[i].start, list[i].end);
     }
-    listed(text, size, guarded(PIECE_SLOT, (unsigned char *)name, name_length), name_length);
-}
-
-typedef uint64_t writing(const uint8_t *, size_t, uint8_t *, size_t);
-
-/* a question that writes bytes: into a byte too few, if there are any, into just these bytes, and with some to spare */
-static void ask_written(const char *what, writing *call, uint64_t answer, const uint8_t *bytes, size_t n)
-{
-    for (size_t room = n - (n > 0); room <= n + 2; room++) {
-        uint8_t *out = guard_room(OUT_SLOT, room);
-        size_t written = room < n ? 0 : n;
-        memset(out, 5, room);
-        same(what, room < n ? 9 : answer, call(store, store_length, out, room));
-        for (size_t i = 0; i < room; i++) same(what, i < written ? bytes[i] : 5, out[i]); /* nothing beyond, or after a refusal */
-    }
+    uint8_t *lent = guarded(PIECE_SLOT, (unsigned char *)name, name_length);
+    listed(text, size, lent, name_length);
+    ask_marks(list, n, text, size, lent, name_length);
 }
 
 static void ask_page(void)
@@ -370,7 +427,7 @@ void model_ask(void)
 /* a change through the oracle while the record is short, and now and then later on */
 static uint64_t change(call_kind kind, uint64_t letter)
 {
-    call c = {kind, letter, NULL, 0, 0, 0};
+    call c = {.kind = kind, .number = letter};
     memcpy(before, store, store_length);
     model_calls++;
     if (length <= SHORT || model_calls % (length < MIDDLING ? 16 : 256) == 0) return oracle(store, store_length, &c);

@@ -2,12 +2,13 @@
 #include "guard.h"
 #include "judge.h"
 #include "mirror.h"
+#include "second_marker.h"
 #include "second_page.h"
 #include <stdio.h>
 #include <stdlib.h>
 #include <string.h>
 
-enum { LENT = 100 * 1024, TEXT_SLOT = 0, OUT_SLOT, SCRATCH_SLOT };
+enum { LENT = 100 * 1024, TEXT_SLOT = 0, OUT_SLOT, SCRATCH_SLOT, SHEET_SLOT = 5 }; /* the others are those of the programs that ask */
 
 unsigned long oracle_calls;
 
@@ -124,14 +125,21 @@ static uint64_t find_answer(const call *c)
     return packed(row != 0, row, pair < 65535 ? pair : 65535, 0);
 }
 
+/* whether the text is an identifier */
+static int identifies(const call *c)
+{
+    if (c->text_length < 1 || c->text_length > 32) return 0;
+    for (size_t i = 0; i < c->text_length; i++) {
+        unsigned char x = c->text[i];
+        if (!(x == '_' || (x >= '0' && x <= '9') || (x >= 'A' && x <= 'Z') || (x >= 'a' && x <= 'z'))) return 0;
+    }
+    return 1;
+}
+
 static uint64_t list_answer(const call *c)
 {
     static stretch list[LAYOUT_MOST];
-    if (c->text_length < 1 || c->text_length > 32) return 10;
-    for (size_t i = 0; i < c->text_length; i++) {
-        unsigned char x = c->text[i];
-        if (!(x == '_' || (x >= '0' && x <= '9') || (x >= 'A' && x <= 'Z') || (x >= 'a' && x <= 'z'))) return 10;
-    }
+    if (!identifies(c)) return 10;
     size_t n = brute_list(was.rule, was.letters, was.size, list), size = 0;
     for (size_t i = 0; i < n; i++)
         size += (size_t)sprintf((char *)wanted_out + size, "%.*s\t%zu\t%zu\n", (int)c->text_length, (const char *)c->text, list[i].start, list[i].end);
@@ -169,6 +177,16 @@ static uint64_t pieces_answer(const call *c)
     return written_answer(c, n, layout_pieces(wanted_out, ends, n));
 }
 
+/* the sheet is read before the size of the mark sheet is looked at */
+static uint64_t mark_answer(const call *c)
+{
+    if (!identifies(c)) return 10;
+    if (!second_is_sheet(c->sheet, c->sheet_length)) return 13;
+    if (c->out_length < MARKS_BYTES) return 9;
+    second_mark_bytes(second_marks(was.rule, was.letters, was.size, c->text, c->text_length, c->sheet, c->sheet_length), wanted_out);
+    return packed((unsigned)second_full(was.rule, was.letters, was.size, c->text, c->text_length, c->sheet, c->sheet_length), 0, 0, 0);
+}
+
 static uint64_t wanted_answer(const call *c)
 {
     if (verdict) return 3;
@@ -188,6 +206,7 @@ static uint64_t wanted_answer(const call *c)
     case GENBANK: return page_answer(c);
     case MINIMAL_UNIQUE: return minimal_unique_answer(c);
     case PIECES: return pieces_answer(c);
+    case MARK: return mark_answer(c);
     default: return change_answer(c);
     }
 }
@@ -199,6 +218,7 @@ static void check_buffers(const call *c, size_t length, uint64_t answer)
     size_t written = done ? call_wrote(c->kind, answer) : 0;
     size_t cleared = done && c->kind == LIST ? layout_scratch(was.size) : 0;
     if (c->text_length && memcmp(lent.text, c->text, c->text_length) != 0) fail(c, "the piece or identifier changed", 0, 1, length);
+    if (c->sheet_length && memcmp(lent.sheet, c->sheet, c->sheet_length) != 0) fail(c, "the sheet changed", 0, 1, length);
     for (size_t i = 0; i < c->out_length; i++) {
         uint8_t wanted = i < written ? wanted_out[i] : 0x5a;
         if (lent.out[i] != wanted) fail(c, "output byte", wanted, lent.out[i], length);
@@ -254,6 +274,7 @@ static void check_change(const uint8_t *store, size_t length, const call *c, uin
 static void lend(const call *c)
 {
     lent.text = guarded(TEXT_SLOT, c->text, c->text_length);
+    lent.sheet = guarded(SHEET_SLOT, c->sheet, c->sheet_length);
     lent.out = guard_room(OUT_SLOT, c->out_length);
     lent.scratch = guard_room(SCRATCH_SLOT, c->scratch_length);
     memset(lent.out, 0x5a, c->out_length);
@@ -295,7 +316,7 @@ static void check_turned(const uint8_t *store, size_t length, const call *c)
 uint64_t oracle_open(uint8_t *store, size_t length, unsigned reading, uint64_t capacity)
 {
     uint64_t wanted = capacity < 1 || capacity > LAYOUT_MOST ? 1 : length < layout_size(capacity) ? 2 : 0;
-    call c = {OPEN + reading, capacity, NULL, 0, 0, 0};
+    call c = {.kind = OPEN + reading, .number = capacity};
     memcpy(before, store, length);
     uint64_t got = call_make(&linked, store, length, &c, &lent);
     oracle_calls++;

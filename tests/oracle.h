@@ -1,7 +1,7 @@
 /* One call through the C boundary, judged from the store's own bytes: what a good store must answer and become is worked
- * out by trying every stretch of the letters that it shows, the page of a record by a second writer (second_page.c), and any
- * other store must be refused with 3. A disagreement is printed and ends the program. The calls get their buffers beside guard
- * pages. */
+ * out by trying every stretch of the letters that it shows, the page of a record by a second writer (second_page.c), the marks of a
+ * sheet by a second marker (second_marker.c), and any other store must be refused with 3. A disagreement is printed and ends the
+ * program. The calls get their buffers beside guard pages. */
 #ifndef ORACLE_H
 #define ORACLE_H
 #include "calls.h"

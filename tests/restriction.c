@@ -5,8 +5,10 @@
  * reading then. An absent site is told with the pair at which it breaks, in the record's reading; a site that is found has as many
  * places as it stands at. The longest length is that of the longest stretch that reads alike, and all places are as many as there
  * are such stretches. Minimal unique are those that stand once and have nothing within, or what stands again. No inverted record is
- * cut into pieces. The page of a record has its letters, in small ones, as a program would read them that passes over all else. Whether
- * letters read alike is tried here in a few lines, and no other test's program is asked. A wrong answer is told on standard error, and the program ends with 1. */
+ * cut into pieces. The page of a record has its letters, in small ones, as a program would read them that passes over all else. On a
+ * sheet of all places where a site of either table stands, those of the first kind are right, or repeated from the second place on, and
+ * the others wrong; the list of a site alone has full marks. Whether letters read alike is tried here in a few lines, and no other
+ * test's program is asked. A wrong answer is told on standard error, and the program ends with 1. */
 #include "mirror.h"
 #include "random.h"
 #include <ctype.h>
@@ -58,7 +60,7 @@ static uint8_t store[MIRROR_STORE_SIZE(2 * MOST)];
 static size_t length;
 static char letters[MOST + 1]; /* what the record must hold */
 static const entry *at_hand;
-static unsigned long answers, minimal;
+static unsigned long answers, minimal, sheets, repeated_lines;
 
 static void key(const char *what, uint64_t wanted, uint64_t got)
 {
@@ -194,6 +196,52 @@ static void not_cut(void)
     key("pieces of an inverted record into no byte", MIRROR_INVERTED, mirror_pieces(store, length, NULL, 0));
 }
 
+/* what a sheet must have: lines of each kind, and how many repeats are missing */
+typedef struct { uint64_t right, repeated, wrong, missing; } marks;
+
+static void marked(const char *sheet, size_t bytes, const char *name, marks wanted)
+{
+    uint8_t got[MIRROR_MARKS_SIZE];
+    uint64_t full = wanted.repeated + wanted.wrong + wanted.missing == 0;
+    memset(got, 0xee, sizeof got);
+    key("marks", full << 8, mirror_mark(store, length, (const uint8_t *)name, strlen(name), (const uint8_t *)sheet, bytes, got, sizeof got));
+    key("right", wanted.right, mirror_right(got));
+    key("repeated", wanted.repeated, mirror_repeated(got));
+    key("wrong", wanted.wrong, mirror_wrong(got));
+    key("missing", wanted.missing, mirror_missing(got));
+    sheets++;
+    repeated_lines += wanted.repeated;
+}
+
+/* the lines of a site at all of its places: one is right if it reads alike, unless another enzyme has the same site */
+static size_t put_site(char *out, const entry *e, int known, marks *to)
+{
+    size_t n = strlen(e->site), written = 0;
+    for (const char *at = strstr(letters, e->site); at; at = strstr(at + 1, e->site)) {
+        size_t start = (size_t)(at - letters);
+        written += (size_t)sprintf(out + written, "sites\t%zu\t%zu\n", start, start + n);
+        *(!reads_alike(at, n) ? &to->wrong : known ? &to->repeated : &to->right) += 1;
+        known = 1;
+    }
+    return written;
+}
+
+/* a sheet of every place of every site */
+static void every_place(void)
+{
+    static char sheet[1 << 20];
+    marks wanted = {0, 0, 0, 0};
+    size_t written = 0;
+    for (size_t i = 0; i < UNEVEN; i++) written += put_site(sheet + written, &uneven[i], 0, &wanted);
+    for (size_t i = 0; i < EVEN; i++) {
+        int known = 0;
+        for (size_t k = 0; k < i; k++) known |= strcmp(even[k].site, even[i].site) == 0;
+        written += put_site(sheet + written, &even[i], known, &wanted);
+    }
+    wanted.missing = mirror_first(mirror_count(store, length)) - wanted.right;
+    marked(sheet, written, "sites", wanted);
+}
+
 /* the piece is found, its row has its length, stands as often as it does and spells it */
 static void is_found(const char *piece, size_t n)
 {
@@ -268,6 +316,7 @@ static void between_flanks(const entry *e, int at_both_ends, int turned)
     longest_length();
     all_places();
     minimal_unique();
+    every_place();
     not_cut();
     take_apart(before, after);
     every_site(even, EVEN, 1);
@@ -275,6 +324,7 @@ static void between_flanks(const entry *e, int at_both_ends, int turned)
     longest_length();
     all_places();
     minimal_unique();
+    every_place();
     not_cut();
     take_apart(m / 2, m - m / 2);
     not_cut();
@@ -311,6 +361,7 @@ static void alone(const entry *e, int found)
     key("bytes listed", (uint64_t)bytes << 32,
         mirror_list(store, length, (const uint8_t *)e->enzyme, strlen(e->enzyme), scratch, sizeof scratch, (uint8_t *)got, bytes));
     key("list", 0, memcmp(wanted, got, bytes) != 0);
+    marked(got, bytes, e->enzyme, (marks){mirror_first(mirror_count(store, length)), 0, 0, 0});
     longest_length();
     minimal_unique();
     if (!found) {
@@ -359,7 +410,9 @@ int main(void)
     random_seed(NULL, 20261117);
     table(even, EVEN, 1);
     table(uneven, UNEVEN, 0);
-    printf("%d sites that read alike on both strands are found, %d others absent, %lu repeats are minimal unique: %lu answers\n", (int)EVEN,
-           (int)UNEVEN, minimal, answers);
+    if (repeated_lines == 0) return 1; /* no site stood twice */
+    printf("%d sites that read alike on both strands are found, %d others absent, %lu repeats are minimal unique, %lu sheets marked: ", (int)EVEN,
+           (int)UNEVEN, minimal, sheets);
+    printf("%lu answers\n", answers);
     return 0;
 }

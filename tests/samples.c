@@ -4,10 +4,12 @@
  * begin anew, and after a turn the repeats take their rows in the order in which they first end. So every accepted call has one
  * right answer, and every table of rows one right content; the page of a record is that of a second writer, and the lengths of a text
  * of uncertain bases, or its refusal, are those of a second program, which makes every choice where the text is short. What is said of
- * the fewest pieces is judged where they are refused too. A dozen
+ * the fewest pieces is judged where they are refused too, and so is what is said of candidates' sheets, by a second marker; what the mark
+ * sheet holds follows from the sheets that were accepted. A dozen
  * sittings, each with a title of its own (##), are the least. It makes no call: that the library answers what the keys say is what
  * tests/key looks at. Usage: samples KEY.. */
 #include "brute.h"
+#include "second_marker.h"
 #include "second_page.h"
 #include "second_uncertain.h"
 #include <ctype.h>
@@ -32,6 +34,7 @@ static repeat held[MOST]; /* what stands, in any order */
 static size_t count;
 static unsigned free_rows[MOST]; /* the last is taken next */
 static size_t free_count;
+static second_counts marks; /* what the mark sheet holds */
 
 static void fail(const char *what, const char *key, const char *found)
 {
@@ -248,6 +251,51 @@ static void say_uncertain(const char *codes, char *said)
     else sprintf(said, "%zu for some choice, %zu for every choice", of.some.length, of.every.length);
 }
 
+/* the bytes of a word, from *c on: those between quotes, or up to a blank; *c goes behind it. The escapes are those of examples/key.c */
+static size_t word_bytes(const char **c, uint8_t *bytes)
+{
+    const char *at = *c + (**c == '"'), end = **c == '"' ? '"' : ' ';
+    unsigned byte;
+    size_t n = 0;
+    for (; *at && *at != end; n++) {
+        if (end == ' ' || *at != '\\') bytes[n] = (uint8_t)*at++;
+        else if (sscanf(at, "\\x%2x", &byte) == 1) bytes[n] = (uint8_t)byte, at += 4;
+        else bytes[n] = at[1] == 't' ? '\t' : at[1] == 'n' ? '\n' : at[1] == 'r' ? '\r' : '\\', at += 2;
+    }
+    *c = at + (end == '"' && *at);
+    return n;
+}
+
+static int is_identifier(const uint8_t *name, size_t n)
+{
+    for (size_t i = 0; i < n; i++)
+        if (!isalnum(name[i]) && name[i] != '_') return 0;
+    return n >= 1 && n <= 32;
+}
+
+static char *say_marks(char *said)
+{
+    unsigned long long right = marks.right, repeated = marks.repeated, wrong = marks.wrong, missing = marks.missing;
+    return said + sprintf(said, "%llu right, %llu repeated, %llu wrong, %llu missing", right, repeated, wrong, missing);
+}
+
+/* the identifier is looked at first, then the sheet, then the bytes that a call names; what is refused leaves the mark sheet as it was */
+static void say_mark(const char *about, char *said)
+{
+    uint8_t name[LINE], sheet[LINE];
+    size_t m = word_bytes(&about, name);
+    if (strncmp(about, " \"", 2) != 0) fail("a sheet", "between quotes", about);
+    about++;
+    size_t n = word_bytes(&about, sheet);
+    int refused = !is_identifier(name, m) ? 10 : !second_is_sheet(sheet, n) ? 13 : *about && strtoul(about, NULL, 10) < 32 ? 9 : 0;
+    if (refused) {
+        sprintf(said, "refused %d", refused);
+        return;
+    }
+    marks = second_marks(rule, letters, size, name, m, sheet, n);
+    strcpy(say_marks(said), second_full(rule, letters, size, name, m, sheet, n) ? "; full marks" : "; not full marks");
+}
+
 /* what every stretch answers to a question */
 static void ask(const char *call, char *said)
 {
@@ -271,6 +319,8 @@ static void ask(const char *call, char *said)
     else if (is_call(call, "minimal")) say_minimal(about, said);
     else if (is_call(call, "pieces")) say_pieces(about, said);
     else if (is_call(call, "uncertain")) say_uncertain(about, said);
+    else if (is_call(call, "mark")) say_mark(about, said);
+    else if (strcmp(call, "marks") == 0) say_marks(said);
     else fail("a call", call, "none");
 }
 
@@ -289,12 +339,17 @@ static void make(const char *call, char *said)
     letters[size] = 0;
 }
 
+/* whether refusals are judged too: they follow from the letters, or from the call */
+static int judged_whole(const char *call)
+{
+    return is_call(call, "pieces") || is_call(call, "uncertain") || is_call(call, "mark");
+}
+
 static void call_line(char **cells)
 {
     char said[LINE];
-    int refusals_too = is_call(cells[0], "pieces") || is_call(cells[0], "uncertain"); /* they follow from the letters, or from the call */
     calls++;
-    if (strncmp(cells[1], "refused", 7) != 0 || refusals_too) {
+    if (strncmp(cells[1], "refused", 7) != 0 || judged_whole(cells[0])) {
         make(cells[0], said);
         compare(cells[0], cells[1], said);
         judged++;
@@ -374,6 +429,7 @@ static void one_key(const char *name)
     FILE *key = fopen(file = name, "r");
     if (key == NULL) fail("the file", "there", "not there");
     letters[size = 0] = 0;
+    marks = (second_counts){0};
     begin(PLAIN);
     for (line_number = 1; fgets(line, sizeof line, key); line_number++) one_line(line);
     one_line((char[]){""});

@@ -1,8 +1,8 @@
 /* Two versions of the library side by side: each call goes to both with the same arguments and equal bytes lent, and the
  * answers and every lent byte afterwards must be equal. Long sittings at both ends with turns and every question, structured
  * words up to full length with both ends asked at every letter, stores damaged in every way, FASTA texts, texts of uncertain bases,
- * lists of repeats and of the minimal unique ones, pages and the fewest pieces; nothing is judged here but that both do the same, and
- * that each leaves its scratch as a list must. tests/versions builds the two.
+ * lists of repeats and of the minimal unique ones, pages, the fewest pieces and sheets; nothing is judged here but that both do the
+ * same, and that each leaves its scratch as a list must. tests/versions builds the two.
  *
  *     versions ONE.so OTHER.so SEED CALLS [LEFT OUT..]
  *
@@ -23,13 +23,13 @@
 
 enum { MOST = 1024, PIECE = MOST + 8, FASTA_MOST = 8192 };
 enum { TEXT_SLOT, OUT_SLOT, SCRATCH_SLOT = OUT_SLOT + 2, STORE_SLOT = SCRATCH_SLOT + 2 };
-enum { OUT_FILLING = 0x5a, SCRATCH_FILLING = 0xa5 };
+enum { OUT_FILLING = 0x5a, SCRATCH_FILLING = 0xa5, SHEET_LINES = 12 };
 enum { EXTRA = 60 }; /* fewer bytes than this are lent beyond what a store needs; 48 would do for one letter more */
 enum { SMALL = 24 }; /* up to so many letters the judge, which damage asks, is fast */
 enum { ALL_A, PAIRS, FIBONACCI, THUE_MORSE, WORDS };
 
 static library both[2];
-static uint8_t *stores[2], *outs[2], *scratches[2], *text;
+static uint8_t *stores[2], *outs[2], *scratches[2], *text, *sheet;
 static size_t whole, length, capacity, size; /* damage may cut the length that is lent of the whole store */
 static unsigned char letters[MOST + 1];
 static const unsigned char *rule; /* of the record that stands */
@@ -97,7 +97,7 @@ static uint64_t make_list(int i, const call *c)
     call mine = *c;
     mine.scratch_length += need - (need > 0);
     scratches[i] = lend(SCRATCH_SLOT + i, mine.scratch_length, SCRATCH_FILLING);
-    uint64_t answer = call_make(&both[i], stores[i], length, &mine, &(buffers){text, scratches[i], outs[i]});
+    uint64_t answer = call_make(&both[i], stores[i], length, &mine, &(buffers){text, scratches[i], outs[i], NULL});
     scratch_left(i, need, mine.scratch_length, answer);
     return answer;
 }
@@ -108,13 +108,15 @@ static uint64_t make(const call *c)
     uint64_t answers[2];
     if (left_out[which] == UINT64_MAX) return 0xff;
     text = guarded(TEXT_SLOT, c->text, c->text_length);
+    sheet = guarded(SCRATCH_SLOT, c->sheet, c->sheet_length); /* what takes a sheet takes no scratch */
     for (int i = 0; i < 2; i++) {
         outs[i] = lend(OUT_SLOT + i, c->out_length, OUT_FILLING);
-        answers[i] = c->kind == LIST ? make_list(i, c) : call_make(&both[i], stores[i], length, c, &(buffers){text, NULL, outs[i]});
+        answers[i] = c->kind == LIST ? make_list(i, c) : call_make(&both[i], stores[i], length, c, &(buffers){text, NULL, outs[i], sheet});
     }
     if (!stores_apart) same_bytes(which, "the store", stores, whole);
     same_bytes(which, "the output", outs, c->out_length);
     if (c->text_length > 0 && memcmp(text, c->text, c->text_length) != 0) differ(which, "the text lent", 0, 1);
+    if (c->sheet_length > 0 && memcmp(sheet, c->sheet, c->sheet_length) != 0) differ(which, "the sheet lent", 0, 1);
     return same_answer(which, answers);
 }
 
@@ -180,10 +182,48 @@ static size_t some_name(unsigned char *name)
     return n;
 }
 
+/* the record's own list by the first version, nothing where it is refused */
+static size_t own_list(unsigned char *lines, const call *c)
+{
+    static uint8_t scratch[4 * MOST];
+    if (left_out[LIST]) return 0;
+    uint64_t answer = both[0].list(stores[0], length, c->text, c->text_length, scratch, sizeof scratch, lines, MIRROR_LIST_SIZE(MOST));
+    return mirror_refusal(answer) ? 0 : mirror_first(answer);
+}
+
+/* a line of the stretch around a centre as far as it is a repeat, a bit more or less, or of any places; now and then one that is none */
+static size_t some_line(unsigned char *line, const call *c)
+{
+    static const char *const forms[] = {"\t%zu\t%zu\n", "\t%zu\t%zu\r\n", "\t0%zu\t%zu\n", "\t%zu\t0%zu\n", "\t%zu\t%zu\t1\n", "\t%zu\t1%04zu\n"};
+    size_t from = random_below((unsigned)size + 1), to = from + random_below(2);
+    size_t bytes = c->text_length - (c->text_length > 0 && random_below(24) == 0); /* now and then another identifier */
+    while (from > 0 && to < size && letters[from - 1] == rule[letters[to]]) from--, to++;
+    if (random_below(4) == 0) from += random_below(2), to -= to > 0 && random_below(2);
+    if (random_below(12) == 0) from = some_number(size) % 10000, to = some_number(size) % 10000;
+    memcpy(line, c->text, bytes);
+    if (bytes > 0 && random_below(24) == 0) line[bytes - 1] ^= 'a' - 'A';
+    if (random_below(24) == 0) line[bytes++] = '_';
+    return bytes + (size_t)sprintf((char *)line + bytes, forms[random_below(48) ? 0 : 1 + random_below(5)], from, to);
+}
+
+/* the own list or a few lines, now and then with more lines, and with a byte changed or lost, often one of the last */
+static void some_sheet(call *c)
+{
+    static unsigned char lines[MIRROR_LIST_SIZE(MOST) + 64 * SHEET_LINES];
+    size_t n = random_below(3) ? 0 : own_list(lines, c);
+    for (unsigned more = n > 0 && random_below(2) ? 0 : random_below(SHEET_LINES); more > 0; more--) n += some_line(lines + n, c);
+    size_t at = n > 0 ? n - 1 - random_below(n < 6 || random_below(2) ? (unsigned)n : 6) : 0;
+    unsigned slip = random_below(3) ? (unsigned)"\t\n\r09:/ +"[random_below(9)] : random_below(256);
+    if (n > 0 && random_below(6) == 0) lines[at] = (unsigned char)slip;
+    if (n > 0 && random_below(12) == 0) memmove(lines + at, lines + at + 1, --n - at);
+    c->sheet = lines;
+    c->sheet_length = n;
+}
+
 static call some_call(call_kind kind, unsigned alphabet)
 {
     static unsigned char bytes[PIECE];
-    call c = {kind, 0, bytes, 0, 0, 0};
+    call c = {.kind = kind, .text = bytes};
     memset(bytes, 0, sizeof bytes);
     if (kind <= ADD_RIGHT) c.number = some_letter(kind == ADD_LEFT, alphabet);
     if (kind == LETTER) c.number = some_number(size);
@@ -193,6 +233,11 @@ static call some_call(call_kind kind, unsigned alphabet)
     if (kind == GENBANK) c.out_length = random_below(12) ? MIRROR_GENBANK_SIZE(size) + random_below(3) : random_below((unsigned)MIRROR_GENBANK_SIZE(size));
     if (kind == MINIMAL_UNIQUE) c.out_length = random_below(12) ? MIRROR_MINIMAL_UNIQUE_SIZE(size) + random_below(3) : random_below(2 * (unsigned)size + 1);
     if (kind == PIECES) c.out_length = random_below(12) ? MIRROR_PIECES_SIZE(size) + random_below(3) : random_below((unsigned)size + 1);
+    if (kind == MARK) {
+        c.text_length = some_name(bytes);
+        c.out_length = random_below(12) ? MIRROR_MARKS_SIZE + random_below(3) : random_below(2) * random_below(MIRROR_MARKS_SIZE);
+        some_sheet(&c);
+    }
     if (kind == LIST) {
         c.text_length = some_name(bytes);
         c.scratch_length = random_below(12) ? 1 + random_below(random_below(6) ? 3 : 4 * (unsigned)size + 1) : 0; /* as make_list counts them */
@@ -225,7 +270,7 @@ static void fill(size_t n)
 /* 1 where the record is open */
 static int open_both(unsigned reading, uint64_t wanted)
 {
-    call c = {OPEN + reading, wanted, NULL, 0, 0, 0};
+    call c = {.kind = OPEN + reading, .number = wanted};
     if (make(&c) != 0) return 0;
     rule = brute_rule(reading);
     capacity = wanted;
@@ -339,7 +384,7 @@ static unsigned char letter_of(unsigned word, unsigned reading, size_t i)
     return (unsigned char)"AC"[second];
 }
 
-/* the lists, the page and the pieces, which are the last kinds, each asked once in so many times */
+/* the lists, the page, the pieces and a sheet, which are the last kinds, each asked once in so many times */
 static void ask_written(unsigned often)
 {
     for (call_kind kind = LIST; kind < CALL_KINDS; kind++) {
@@ -352,10 +397,10 @@ static void ask_written(unsigned often)
 /* all places, and how often the repeats of some rows stand */
 static void ask_places(void)
 {
-    call all = {OCCURRENCES, 0, NULL, 0, 0, 0};
+    call all = {.kind = OCCURRENCES};
     make(&all);
     for (int i = 0; i < 6; i++) {
-        call c = {FREQUENCY, 2 + random_below((unsigned)capacity), NULL, 0, 0, 0};
+        call c = {.kind = FREQUENCY, .number = 2 + random_below((unsigned)capacity)};
         make(&c);
     }
 }
@@ -365,18 +410,18 @@ static void ask_places(void)
 static void change_at(unsigned ends, call_kind at_left, uint64_t letter)
 {
     unsigned right = ends == 2 ? random_below(2) : ends == 0;
-    call c = {at_left + right, letter, NULL, 0, 0, 0};
+    call c = {.kind = at_left + right, .number = letter};
     follow(&c, make(&c));
     for (call_kind kind = LONGEST_LEFT; kind <= LONGEST_RIGHT; kind++) {
-        call asked = {kind, 0, NULL, 0, 0, 0};
+        call asked = {.kind = kind};
         make(&asked);
     }
     ask_written(16);
     if (random_below(16) == 0) ask_places();
 }
 
-/* a word of n letters joins and is taken away again, and where it is longest it is listed, printed, cut, counted and damaged in every
- * way */
+/* a word of n letters joins and is taken away again, and where it is longest it is listed, printed, cut, marked, counted and
+ * damaged in every way */
 static void word_sitting(size_t n)
 {
     unsigned reading = without_inverted() ? PLAIN : random_below(READINGS), word = random_below(WORDS), joined = random_below(3), taken = random_below(3);

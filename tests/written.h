@@ -1,7 +1,7 @@
-/* A question about the record that is followed (followed.h) that writes bytes at the front of a lent output: a page or a list. A test says
- * which call it is and what the record must answer and write now, and asks it with outputs of many sizes and of stores that are not
- * good. Too little room is 9 and leaves every byte; else the bytes stand at the front, and every byte behind them stays. A store that is
- * not good is 3, whatever the room. No byte of a store may change. The output lies at a guard page. */
+/* A question about the record that is followed (followed.h) that writes bytes at the front of a lent output: a page, a list or counts. A
+ * test says which call it is and what the record must answer and write now, and asks it with outputs of many sizes and of stores that
+ * are not good. Too little room is 9 and leaves every byte; else the bytes stand at the front, and every byte behind them stays. A store
+ * that is not good is 3, whatever the room. No byte of a store may change. The output lies at a guard page. */
 #ifndef WRITTEN_H
 #define WRITTEN_H
 #include <stddef.h>
