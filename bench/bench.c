@@ -78,13 +78,15 @@ static int against(const char *name, double limit, const struct pair times[WORDS
 
 /* Whether a call is timed on a word in a reading. The words that are made for the other reading are for turns, and for
  * length beside them: some have few rows or none, which cost least to test, while a turn brings in as many as letters. GTA..A is for
- * pieces, and for length beside them. */
+ * pieces, and for length beside them, and A..ACA..A for the sheets of marking.c. */
 static bool timed(int call, int word, enum reading reading)
 {
     if (word_reading(word) != (int)reading)
         return word < BOTH_WORDS && (is_turn(call) || call == CALL_LENGTH);
     if (word == GTA)
         return call == CALL_PIECES || call == CALL_LENGTH;
+    if (word == ACA)
+        return false;
     return !opens_otherwise(call, reading) && works_on(call, reading);
 }
 
@@ -439,8 +441,8 @@ static int fewest_pieces(struct panel *to)
     return above;
 }
 
-/* Prints how the cost of the addition, of the test, of the counts by place and of the fewest pieces grows, and draws that of the
- * first two and of the last against n; how many figures of the pieces are above their limits. */
+/* Prints how the cost of the addition, of the test, of the counts by place, of marking the own list and of the fewest pieces grows,
+ * and draws that of the first two and of the last against n; how many figures of the pieces are above their limits. */
 static int growth(FILE *out)
 {
     static struct panel panels[3] = {{.title = "add right, tested (microseconds)", .words = WORDS, .points = POINTS},
@@ -454,6 +456,7 @@ static int growth(FILE *out)
         growth_line(drawn[p], panels[p].at);
     for (int call = CALL_FREQUENCY; call <= CALL_OCCURRENCES; call++)
         growth_line(call, not_drawn);
+    growth_line(CALL_MARK, not_drawn);
     int above = fewest_pieces(&panels[2]);
     draw(out, panels, 3);
     return above;

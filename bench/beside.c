@@ -46,7 +46,7 @@ static unsigned row_by(const library *by, const struct sitting *s, const struct 
 }
 
 /* A record of the word made by a library's own calls, with arguments that make each call work hard: the row and the first piece
- * are those of the longest palindrome, and the other row is that of the most frequent one. */
+ * are those of the longest palindrome, the other row is that of the most frequent one, and the sheet is the record's own list. */
 static void make_record(struct sitting *to, const library *by, int word)
 {
     uint8_t letters[LETTERS + 1];
@@ -68,6 +68,8 @@ static void make_record(struct sitting *to, const library *by, int word)
     make_often(&often, word_reading(word), letters, LETTERS);
     to->often = row_by(by, to, &often);
     make_pieces(to, word_reading(word), LETTERS);
+    uint64_t list = by->list(to->store, to->length, NAME, to->scratch, to->scratch_length, to->sheet, sizeof to->sheet);
+    to->sheet_length = mirror_first(list);
 }
 
 static bool reads_fasta(int call) { return call == FASTA || call == MASKED; }

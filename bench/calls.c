@@ -14,9 +14,6 @@ const library *measured = &linked_library;
     static uint64_t twins_##id(struct sitting *s) { return twin_##name args; }
 #define BOTH(name, args) BOTH_AS(name, name, args)
 
-static const uint8_t identifier[] = "chr1_sample";
-#define NAME identifier, sizeof identifier - 1
-
 BOTH(open, (s->store, s->length, s->capacity))
 BOTH(open_inverted, (s->store, s->length, s->capacity))
 BOTH(add_left, (s->store, s->length, s->letter))
@@ -41,6 +38,7 @@ BOTH(list, (s->store, s->length, NAME, s->scratch, s->scratch_length, s->out, s-
 BOTH(genbank, (s->store, s->length, s->out, s->out_length))
 BOTH(minimal_unique, (s->store, s->length, s->out, s->out_length))
 BOTH(pieces, (s->store, s->length, s->out, s->out_length))
+BOTH(mark, (s->store, s->length, NAME, s->sheet, s->sheet_length, s->out, s->out_length))
 
 #define FIND(id, call) \
     BOTH_AS(id, find, (s->store, s->length, s->pieces[call - CALL_FIND].letters, s->pieces[call - CALL_FIND].length))
@@ -88,6 +86,7 @@ const struct call calls[PAIRS] = {
     [CALL_GENBANK] = CALL(genbank, false),
     [CALL_MINIMAL_UNIQUE] = CALL(minimal_unique, false),
     [CALL_PIECES] = CALL(pieces, false),
+    [CALL_MARK] = CALL(mark, false),
     [CALL_SPELL_BY_LOOP] = {"spell, twin loops", false, library_spell, spell_by_loop},
 };
 
@@ -165,6 +164,12 @@ static unsigned often_row(const struct sitting *s, int reading)
     return twin_find(s->store, s->length, often.letters, often.length) >> 16 & 0xffff;
 }
 
+void hand_in_list(struct sitting *s)
+{
+    uint8_t scratch[MIRROR_LIST_SCRATCH(CAPACITY_MOST)];
+    s->sheet_length = bare_list(s->store, NAME, scratch, s->sheet);
+}
+
 void seat(struct sitting *s, int word, int reading, size_t n, size_t capacity)
 {
     uint8_t letters[CAPACITY_MOST + 1];
@@ -184,5 +189,6 @@ void seat(struct sitting *s, int word, int reading, size_t n, size_t capacity)
     uint64_t spelt = twin_spell(s->store, s->length, s->row, s->pieces[0].letters, PIECE_MOST);
     s->pieces[0].length = spelt >> 32 & 0xffff;
     s->often = often_row(s, reading);
+    hand_in_list(s);
     make_pieces(s, reading, n);
 }

@@ -14,10 +14,17 @@ enum { CAPACITY_MOST = 1024, STORE_MOST = 48 * CAPACITY_MOST + 256, OUT_MOST = 4
  * sittings beside today's (beside.c). Today's leaves what it does not need. */
 enum { SCRATCH_MOST = 4 * CAPACITY_MOST, SCRATCH_PAINT = 0xa5, PIECE_MOST = CAPACITY_MOST + 2 };
 
+/* The identifier of every list and of every line of a sheet; a list has a line for each palindrome, and its numbers, tabs and LF take
+ * at most eleven bytes. */
+#define IDENTIFIER "chr1_sample"
+#define NAME (const uint8_t *)IDENTIFIER, sizeof IDENTIFIER - 1
+enum { LINE_MOST = sizeof IDENTIFIER - 1 + 11, LIST_MOST = LINE_MOST * CAPACITY_MOST };
+
 /* The calls in the order of their table, and last the spelling call once more beside a twin that loops instead of
  * recursing. Both openings stand first, so that CALL_OPEN + reading gives that reading; CALL_TURN_PLAIN + reading turns
  * to it. Frequency stands there twice: the row of the longest palindrome, and that of the most frequent one. Finding stands
- * there five times: the longest palindrome, and four pieces that are absent (make_pieces). */
+ * there five times: the longest palindrome, and four pieces that are absent (make_pieces). Marking gets the record's own list;
+ * sheets.h has others. */
 enum {
     CALL_OPEN,
     CALL_OPEN_INVERTED,
@@ -48,6 +55,7 @@ enum {
     CALL_GENBANK,
     CALL_MINIMAL_UNIQUE,
     CALL_PIECES,
+    CALL_MARK,
     CALLS,
     CALL_SPELL_BY_LOOP = CALLS,
     PAIRS,
@@ -62,8 +70,9 @@ struct piece {
 /* What a call is lent and told; the same store serves every call. */
 struct sitting {
     uint8_t store[STORE_MOST], scratch[SCRATCH_MOST], out[OUT_MOST];
+    uint8_t sheet[LIST_MOST];
     struct piece pieces[FINDS];
-    size_t length, scratch_length, out_length;
+    size_t length, scratch_length, out_length, sheet_length;
     uint64_t capacity, letter, place, row, often;
 };
 
@@ -115,8 +124,11 @@ unsigned broken_pair(int find, size_t n);
 size_t make_often(struct piece *to, int reading, const uint8_t *letters, size_t n);
 
 /* A record of n letters of a word in a reading, 0 or 1, at the given capacity, with arguments that make each call work
- * hard: the row and the first piece are those of the longest palindrome; `often` is the row of the most frequent one. The
- * scratch is painted, so that it shows what a call clears there. */
+ * hard: the row and the first piece are those of the longest palindrome; `often` is the row of the most frequent one; the sheet is
+ * the record's own list. The scratch is painted, so that it shows what a call clears there. */
 void seat(struct sitting *s, int word, int reading, size_t n, size_t capacity);
+
+/* Puts the list of the record as it is in the place of the sheet. */
+void hand_in_list(struct sitting *s);
 
 #endif

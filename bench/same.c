@@ -3,9 +3,9 @@
  * Every call on every word in either reading, pieces to find that are repeats, nearly are, read alike and are absent or are
  * longer than the record, frequencies of every row and of numbers that are none, lists with scratch about the need, pages,
  * minimal unique palindromes and the fewest pieces with room about the need, long random sittings from both ends, some with turns,
- * full records of every word taken away letter by letter, and damaged stores, in some of which a carried number alone is untrue, go
- * through both, and every answer and every lent byte must agree. Prints how many calls were compared, and ends with 1 at the first
- * difference. */
+ * full records of every word taken away letter by letter and their lists marked, and damaged stores, in some of which a carried number
+ * alone is untrue, go through both, and every answer and every lent byte must agree. Prints how many calls were compared, and ends
+ * with 1 at the first difference. Other sheets are for same_marking.c. */
 #include <stdio.h>
 #include <stdlib.h>
 #include <string.h>
@@ -14,7 +14,7 @@
 #include "twin.h"
 #include "words.h"
 
-enum { STEPS = 6000, BETWEEN_TURNS = 50, LONG_PIECE = 2 * 65540, OUT_PAINT = 0x5a };
+enum { STEPS = 6000, BETWEEN_TURNS = 50, BETWEEN_SHEETS = 70, LONG_PIECE = 2 * 65540, OUT_PAINT = 0x5a };
 
 static struct sitting here, there;
 static unsigned long compared, refused;
@@ -75,7 +75,7 @@ static void compare_damaged(const char *where)
     compare(&calls[CALL_LONGEST_LENGTH], where);
     compare_ends(where);
     compare_counts(where);
-    for (int i = CALL_GENBANK; i <= CALL_PIECES; i++)
+    for (int i = CALL_GENBANK; i <= CALL_MARK; i++)
         compare(&calls[i], where);
     compare(&calls[CALL_REMOVE_LEFT], where);
     compare(&calls[CALL_REMOVE_RIGHT], where);
@@ -83,14 +83,16 @@ static void compare_damaged(const char *where)
 }
 
 /* How many bytes a call that writes has written, by its answer: a minimal unique palindrome takes four, and the end of a piece
- * two. */
+ * two; marks always take as many. */
 static size_t written(int call, uint64_t told)
 {
+    if (call == CALL_MARK)
+        return MIRROR_MARKS_SIZE;
     return (size_t)mirror_first(told) * (call == CALL_MINIMAL_UNIQUE ? 4 : call == CALL_PIECES ? 2 : 1);
 }
 
-/* Spelling, listing, printing, the minimal unique palindromes and the fewest pieces into a buffer that just fits, and into one that
- * is a byte short. */
+/* Spelling, listing, printing, the minimal unique palindromes, the fewest pieces and marks into a buffer that just fits, and into one
+ * that is a byte short. */
 static void tight(const struct sitting *s)
 {
     for (int i = CALL_SPELL; i < PAIRS; i++) {
@@ -374,6 +376,30 @@ static void all_places(enum reading reading)
                 places(call, word, reading, sizes[i]);
 }
 
+/* How long a sheet is without its last line. */
+static size_t a_line_less(const struct sitting *s)
+{
+    size_t length = s->sheet_length - 1;
+    while (length > 0 && s->sheet[length - 1] != '\n')
+        length--;
+    return length;
+}
+
+/* The sheet that is timed has full marks, and not with a line less, or its name in the tables would be untrue. */
+static void own_list(const struct sitting *s)
+{
+    here = there = *s;
+    bool right = compare(&calls[CALL_MARK], "the own list") == answer(true, 0, 0, 0);
+    if (right && s->sheet_length > 0) {
+        here.sheet_length = there.sheet_length = a_line_less(s);
+        right = compare(&calls[CALL_MARK], "a line less") == 0 && mirror_missing(here.out) == 1;
+    }
+    if (right)
+        return;
+    printf("bench/same: the list of %u letters, marked\n", size_of(s->store));
+    exit(1);
+}
+
 /* The inputs that the benchmark times, and the largest records; each word in both readings, since one that was made for
  * the other has few repeats or none. */
 static void on_words(enum reading reading)
@@ -385,6 +411,7 @@ static void on_words(enum reading reading)
             seat(&s, word, reading, sizes[i], sizes[i] + 24);
             compare_all(&s, word_names[word]);
             tight(&s);
+            own_list(&s);
             if (sizes[i] >= 125)
                 as_named(&s, sizes[i]);
         }
@@ -432,6 +459,14 @@ static int next_call(uint32_t r, int step, bool turning)
     return (rising ? CALL_ADD_LEFT : CALL_REMOVE_LEFT) + (int)(r / 4096 % 2);
 }
 
+/* The list of the record as it is, as the sheet of both; later changes of the record make some of its lines wrong. */
+static void hand_in(struct sitting *one, struct sitting *other)
+{
+    hand_in_list(one);
+    memcpy(other->sheet, one->sheet, sizeof one->sheet);
+    other->sheet_length = one->sheet_length;
+}
+
 /* A sitting from an empty record on. One that turns is no stand-in for one that does not: a turn puts the rows back in their
  * first order, which many changes at both ends have mixed. */
 static void sitting(uint32_t seed, enum reading reading, size_t capacity, const char *letters, bool turning)
@@ -445,25 +480,30 @@ static void sitting(uint32_t seed, enum reading reading, size_t capacity, const 
         here.often = there.often = draw_row(r / 17);
         here.place = there.place = r / 11 % (capacity + 1);
         draw_pieces(r / 13);
+        if (i % BETWEEN_SHEETS == 0)
+            hand_in(&here, &there);
         compare(&calls[next_call(r, i, turning)], turning ? "a sitting that turns" : "a sitting");
     }
 }
 
 /* A full record of a word taken away at either end by chance, with both ends asked, the page printed and the minimal unique
- * palindromes and the fewest pieces told at every letter, and the counts by place and a list at every eighth: what is removed
- * leaves ranks to other rows, so that these come in no order. */
+ * palindromes and the fewest pieces told at every letter, and the counts by place and a list, which is marked, at every eighth: what
+ * is removed leaves ranks to other rows, so that these come in no order. In between the last list is marked, some of whose lines have
+ * become wrong. */
 static void taken_away(uint32_t seed, int word, enum reading reading)
 {
     seat(&here, word, reading, CAPACITY_MOST, CAPACITY_MOST);
     there = here;
     while (size_of(here.store) > 0) {
         compare_ends(word_names[word]);
-        for (int i = CALL_GENBANK; i <= CALL_PIECES; i++)
+        for (int i = CALL_GENBANK; i <= CALL_MARK; i++)
             compare(&calls[i], word_names[word]);
         if (size_of(here.store) % 8 == 0) {
             here.often = there.often = draw_row(seed >> 8);
             compare_counts(word_names[word]);
             compare_list(word_names[word]);
+            hand_in(&here, &there);
+            compare(&calls[CALL_MARK], word_names[word]);
         }
         compare(&calls[CALL_REMOVE_LEFT + (int)(next_random(&seed) >> 31)], word_names[word]);
     }

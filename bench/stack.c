@@ -2,8 +2,8 @@
  * changed is looked up afterwards; a call of an empty function is taken off. The records are full ones of 1,024
  * letters in either reading, a letter less for additions, where spelling and finding have the longest palindrome there is,
  * the list the most lines, genbank the longest page and a turn the most letters to set aside. What the list takes beyond length,
- * which is the test and one read, is told too. Ends with 1 if a call takes more than 64 KiB, pieces more than 12, frequency,
- * occurrences or minimal_unique more than 8, or uncertain more than 4. */
+ * which is the test and one read, is told too. Ends with 1 if a call takes more than 64 KiB, pieces more than 12, mark more than 10,
+ * frequency, occurrences or minimal_unique more than 8, or uncertain more than 4. */
 #include <stdio.h>
 #include <string.h>
 #include <ucontext.h>
@@ -14,7 +14,7 @@
 #include "words.h"
 
 enum { STACK = 1 << 20, PAINT = 0xa5 };
-enum { LIMIT = 64 * 1024, PIECES_LIMIT = 12 * 1024, COUNTS_LIMIT = 8 * 1024, CODES_LIMIT = 4 * 1024 };
+enum { LIMIT = 64 * 1024, PIECES_LIMIT = 12 * 1024, MARK_LIMIT = 10 * 1024, COUNTS_LIMIT = 8 * 1024, CODES_LIMIT = 4 * 1024 };
 
 static uint8_t stack[STACK];
 static struct sitting s, before;
@@ -104,6 +104,8 @@ static size_t limit_of(int call)
 {
     if (call == CALL_PIECES)
         return PIECES_LIMIT;
+    if (call == CALL_MARK)
+        return MARK_LIMIT;
     return is_frequency(call) || call == CALL_OCCURRENCES || call == CALL_MINIMAL_UNIQUE ? COUNTS_LIMIT : LIMIT;
 }
 

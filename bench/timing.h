@@ -38,6 +38,15 @@ struct pair {
 #define PIECES_FIBONACCI_LIMIT 5.0
 #define PIECES_GROWTH_LIMIT 12.0
 
+/* The ratio of marking the sheet of 10,000 random stretches to reading its lines alone, and that of marking ten times as many to
+ * marking these: what the test and the tables take is part of either, so in proportion it is below 10. */
+#define MARK_READ_LIMIT 8.0
+#define MARK_LINES_LIMIT 12.0
+
+/* The steps from row to row that the way to the row of a stretch may have in any record: as many as the longest way between two rows
+ * of 1,024 A, whose chain has each pair of depths, and one more where no row is as long as the stretch. */
+#define MARK_STEPS_LIMIT 26
+
 /* The microseconds that the two lengths of 1,024 codes may take on any text, since their work is not linear, on one drawn by chance,
  * and on such texts each of which is new. */
 #define UNCERTAIN_LIMIT 200.0
@@ -82,6 +91,16 @@ struct pair time_masked_fasta(int word, size_t n, int samples);
  * it the same work takes two to three times as long. */
 struct pair time_uncertain(int text, int samples);
 struct pair time_new_texts(int kind);
+
+/* Marking a sheet (sheets.h), or so many stretches drawn by chance, against a record of n letters of a word in its reading: the
+ * library and the twin, a twin that looks at each byte once, such a reading of the lines alone, and one look at each byte; the
+ * library's time is -1 where it answers or writes other than the twin. */
+struct marking {
+    struct pair whole;
+    double at_once, lines, bytes;
+};
+struct marking time_marking(int sheet, int word, size_t n, int samples);
+struct marking time_lines(size_t count, int word, size_t n, int samples);
 
 /* The sizes at which the growth of a call's cost is measured. */
 enum { POINTS = 8, POINT_STEP = 125 };

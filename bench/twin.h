@@ -21,6 +21,8 @@ struct reach {
 bool twin_is_good(const uint8_t *store, size_t length);
 /* The same test; of a good store it also tells what it read at either end. */
 bool twin_examine(const uint8_t *store, size_t length, struct reach reach[2]);
+/* Whether the list and the marks take this identifier. */
+bool twin_is_identifier(const uint8_t *name, size_t length);
 
 uint64_t twin_open(uint8_t *store, size_t length, uint64_t capacity);
 uint64_t twin_open_inverted(uint8_t *store, size_t length, uint64_t capacity);
@@ -49,6 +51,11 @@ uint64_t twin_list(const uint8_t *store, size_t length, const uint8_t *identifie
 uint64_t twin_genbank(const uint8_t *store, size_t length, uint8_t *out, size_t out_length);
 uint64_t twin_minimal_unique(const uint8_t *store, size_t length, uint8_t *out, size_t out_length);
 uint64_t twin_pieces(const uint8_t *store, size_t length, uint8_t *out, size_t out_length);
+uint64_t twin_mark(const uint8_t *store, size_t length, const uint8_t *identifier, size_t identifier_length, const uint8_t *sheet,
+                   size_t sheet_length, uint8_t *marks, size_t marks_length);
+/* Marking as a C programmer would write it who is free to: each byte of the sheet is looked at once. */
+uint64_t twin_mark_at_once(const uint8_t *store, size_t length, const uint8_t *identifier, size_t identifier_length,
+                           const uint8_t *sheet, size_t sheet_length, uint8_t *marks, size_t marks_length);
 
 void bare_open(uint8_t *store, size_t capacity, enum reading reading);
 uint64_t bare_add(uint8_t *store, enum side side, uint8_t letter);
@@ -57,6 +64,9 @@ uint64_t bare_remove(uint8_t *store, enum side side, struct reach reach);
  * nothing is written where that is the reading already. */
 void bare_turn(uint8_t *store, enum reading reading);
 size_t bare_list(const uint8_t *store, const uint8_t *name, size_t name_length, uint8_t *scratch, uint8_t *out);
+/* Reads a sheet's lines, each byte once, and does nothing with them but to add up their numbers and how many have the identifier,
+ * so that none is left unread; 0 where some bytes are no line. */
+uint64_t bare_read(const uint8_t *name, size_t name_length, const uint8_t *sheet, size_t length);
 
 /* Opens a plain record of the largest capacity and adds each letter at the right, with no test of the store. */
 uint64_t twin_fill(uint8_t *store, size_t length, const uint8_t *letters, size_t n);

@@ -103,7 +103,7 @@ size_t bare_list(const uint8_t *b, const uint8_t *name, size_t name_length, uint
     return (size_t)(at - out);
 }
 
-static bool is_identifier(const uint8_t *name, size_t length)
+bool twin_is_identifier(const uint8_t *name, size_t length)
 {
     if (length < 1 || length > 32)
         return false;
@@ -120,7 +120,7 @@ uint64_t twin_list(const uint8_t *store, size_t length, const uint8_t *name, siz
 {
     if (!twin_is_good(store, length))
         return 3;
-    if (!is_identifier(name, name_length))
+    if (!twin_is_identifier(name, name_length))
         return 10;
     if (scratch_length < scratch_size(store) || out_length < listing_length(store, name_length))
         return 9;

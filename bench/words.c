@@ -18,7 +18,11 @@
  * and 788, (ATCG)* and the Fibonacci word with partners 4 and 6.
  *
  * GTA..A is for pieces: at each of its ends as many palindromes end as A stand before it, and none leaves so little to cut that the
- * others need not be tried. So to try them all, or to stop where nothing can be better, takes n times n steps. */
+ * others need not be tried. So to try them all, or to stop where nothing can be better, takes n times n steps.
+ *
+ * A..ACA..A is for marks, with the C in the middle: the mirror image of a stretch of A behind the C stands before it, where a longer
+ * stretch of A ends at the same place, so that the way to its row is long. Of all places of the C those about the middle make the
+ * ways of all stretches longest together. */
 #include "words.h"
 
 #include <string.h>
@@ -26,7 +30,8 @@
 #include "cells.h"
 
 const char *const word_names[ALL_WORDS] = {"random", "all-A", "(AC)*", "Fibonacci", "Thue-Morse",
-                                           "random", "(AT)*", "(ATCG)*", "Fibonacci", "Thue-Morse", "few", "GTA..A"};
+                                           "random", "(AT)*", "(ATCG)*", "Fibonacci", "Thue-Morse", "few", "GTA..A",
+                                           "A..ACA..A"};
 
 uint32_t next_random(uint32_t *state)
 {
@@ -82,6 +87,13 @@ static void gta(uint8_t *out, size_t n)
         out[i] = i < 2 ? (uint8_t)"GT"[i] : 'A';
 }
 
+/* Nothing but A and a C in the middle. */
+static void aca(uint8_t *out, size_t n)
+{
+    for (size_t i = 0; i < n; i++)
+        out[i] = i == n / 2 ? 'C' : 'A';
+}
+
 /* The Thue-Morse word over two letters, from a place on. */
 static void thue_morse(const char *letters, size_t from, uint8_t *out, size_t n)
 {
@@ -113,6 +125,7 @@ void make_word(int which, uint8_t *out, size_t n)
     case WORDS + THUE_MORSE: thue_morse("AT", 64, out, n); break;
     case SPARSE: few_palindromes(out, n); break;
     case GTA: gta(out, n); break;
+    case ACA: aca(out, n); break;
     default: random_letters(out, n);
     }
 }

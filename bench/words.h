@@ -6,8 +6,9 @@
 #include <stdint.h>
 
 /* First the words of plain records, then in the same order those of inverted ones. Then a plain one that is only there to be
- * timed beside random DNA in an inverted record, and last one that is only there to be cut into pieces: see words.c. */
-enum { RANDOM, ALL_A, AC, FIBONACCI, THUE_MORSE, WORDS, BOTH_WORDS = 2 * WORDS, SPARSE = BOTH_WORDS, GTA, ALL_WORDS };
+ * timed beside random DNA in an inverted record, one that is only there to be cut into pieces, and last one that is only there to
+ * have sheets marked: see words.c. */
+enum { RANDOM, ALL_A, AC, FIBONACCI, THUE_MORSE, WORDS, BOTH_WORDS = 2 * WORDS, SPARSE = BOTH_WORDS, GTA, ACA, ALL_WORDS };
 extern const char *const word_names[ALL_WORDS];
 
 /* The words that are cut into pieces: those of plain records, and GTA..A. */
