@@ -1,5 +1,5 @@
-// A line of a candidate's sheet, read: three fields between tabs, of which the second and the third are
-// numbers. Each function is proved to answer what specs/Sheet.antt of the crate palindromes says.
+// A BED line of three fields, read: they stand between tabs, and the second and the third are numbers.
+// Each function is proved to answer what specs/Sheet.antt of the crate palindromes says.
 ghost use mathlib.Core.Path.{_≡_};
 ghost use Rattle.palindromes.specs.Word.{sameWord};
 ghost use Rattle.palindromes.specs.Sheet.{needlessZero, split, lineOf};

@@ -77,12 +77,9 @@ module _ (σ : ℕ → ℕ) (identifier s : Word) where
       go : (p : Word) → member p (palindromes σ s) ≡ true → (t : Bool) → member p before ≡ t → _≡_ {A = ℕ} 0 (cond t 0 1)
       go p m true f = refl
       go p m false f =
-          absurd (omega (
-            arith,
-            e,
-            member-length p (keep (λ q. not (member q before)) (palindromes σ s))
-                (member-keep p (λ q. not (member q before)) (palindromes σ s) ∙ both-are (member p (palindromes σ s)) (not (member p before)) m (ap not f)),
-          ))
+          let unnamed : Word → Bool = λ q. not (member q before) in
+          let due = member-keep p unnamed (palindromes σ s) ∙ both-are (member p (palindromes σ s)) (unnamed p) m (ap not f) in
+          absurd (omega (arith, e, member-length p (keep unnamed (palindromes σ s)) due))
 
   none-missing : (before : List Word) → Rest before [] → missingFrom σ s before ≡ 0
   unfolding missingFrom namers

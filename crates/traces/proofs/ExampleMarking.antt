@@ -1,29 +1,30 @@
 -- The list of `Example` as far as CAC, and what the claims about marking say of it: a sheet that names A, C and C again, at its other place, has two
 -- right lines and a repeated one, and misses CAC (`marked-CAC`). Over a mark sheet of 34 sevens its counts leave the last two. Its first line alone,
--- without the LF, is refused with 13 (`no-line-feed`).
+-- without the LF, is refused with 13 (`no-line-feed`). Its own list without the line of CAC has no full marks (`dropped-CAC`).
 use Prim.Native.Nat.{ℕ}
 use native.Mathlib.Omega.{arith}
 use mathlib.Core.Path.{_≡_, refl, ap, _∙_, subst}
 use mathlib.Core.Bool.{true, false}
-use mathlib.Core.List.{[], _∷_, _++_}
+use mathlib.Core.List.{List, [], _∷_, _++_}
 use lib.ListN.{replicate}
 use lib.Seq.{sets}
 use Rattle.palindromes.specs.Word.{Word, isEmpty, sameWord, mismatchFrom, member, keep, distinct}
 use Rattle.palindromes.specs.Palindrome.{mirror, firstMismatch, isSymmetric, isPalindrome}
 use Rattle.palindromes.specs.Reading.{asPlain, readingNumber, ruleIn}
 use Rattle.palindromes.specs.Record.{prefixes, suffixes, suffixesOfEach, stretches, palindromes}
-use Rattle.palindromes.specs.Bed.{isIdentifierByte, allIdentifierBytes, isIdentifier}
+use Rattle.palindromes.specs.Bed.{isIdentifierByte, allIdentifierBytes, isIdentifier, bedLines}
 use Rattle.palindromes.specs.Interval.{wordAt}
 use Rattle.palindromes.specs.Digits.{valueFrom, value}
 use Rattle.palindromes.specs.Sheet.{inFirst, split, allDigits, needlessZero, isNumber, lineOf, withLine, linesOf, sheetLines, isSheet, linesIn}
 use Rattle.palindromes.specs.Marks.{named, isNaming, markOf, Counts, counted, withNamed, missingFrom, countsFrom, countsOf, fullMarks, sheetCounts}
 use Rattle.palindromes.specs.Marks.{lowBytes, countsBytes}
 use Rattle.palindromes.specs.Refusal.{mark, ask}
+use Rattle.mark_laws.specs.Slip.{line-dropped}
 use Rattle.outcome.specs.Reply.{packed, accepted, refusedWith, unpacked}
 use Rattle.outcome.specs.Outcome.{Lent, written}
 use Rattle.outcome.specs.Promise.{lending, Promise}
 use Rattle.traces.specs.Run.{storeAfter, lettersAfter}
-use Rattle.traces.specs.Marking.{Marking}
+use Rattle.traces.specs.Marking.{countsAfter, Marking}
 use Rattle.traces.proofs.Marking.{marking-after}
 use Rattle.traces.proofs.Example.{sevens, all-bytes, opened, promise, answers-zero, start, with-CAC, run-to-CAC, in-CAC, plain-CAC}
 
@@ -87,3 +88,15 @@ no-sheet = refl
 pub no-line-feed : (l : Lent) (a : ℕ) (b′ : Word) (l′ : Lent) → Promise (ask (mark e1 unended)) end l a b′ l′
     → (unpacked a ≡ refusedWith 13) × (l′ ≡ l)
 no-line-feed l a b′ l′ p = let q = its-marking .bad-sheet e1 unended a-name no-sheet l a b′ l′ p in (q .told, q .bytes)
+
+-- its own list without the line of CAC
+abbrev C-and-A : List Word
+C-and-A = (67 ∷ []) ∷ (65 ∷ []) ∷ []
+
+repeats-are : palindromes (ruleIn 0) (67 ∷ 65 ∷ 67 ∷ []) ≡ C-and-A ++ (67 ∷ 65 ∷ 67 ∷ []) ∷ []
+unfolding palindromes stretches prefixes suffixesOfEach suffixes keep distinct sameWord isPalindrome isSymmetric firstMismatch mismatchFrom mirror
+    isEmpty ruleIn
+repeats-are = refl
+
+pub dropped-CAC : fullMarks (countsAfter 0 (67 ∷ 65 ∷ 67 ∷ []) e1 (bedLines e1 (67 ∷ 65 ∷ 67 ∷ []) C-and-A)) ≡ false
+dropped-CAC = its-marking .slip e1 _ a-name (line-dropped C-and-A (67 ∷ 65 ∷ 67 ∷ []) [] repeats-are refl)
