@@ -1,4 +1,4 @@
-// The host's call that marks a candidate's sheet. It tests its store, the identifier, the sheet and the
+// The host's call that marks a sheet of BED lines. It tests its store, the identifier, the sheet and the
 // mark sheet, asks nothing of the caller, and leaves every byte as the outcome of the call says.
 use identifier::is_identifier;
 use marking::SheetMarks;
