@@ -1,5 +1,7 @@
 // An addition: where the letter brings in a palindrome, the palindrome's row is inserted with it; else
 // the letter alone joins the record.
+#![tactic(auto)]
+
 ghost use Rattle.std.specs.Prelude.{◌≡◌, true, ◌<◌};
 ghost use Rattle.palindromes.specs.Word.{is_letter};
 ghost use Rattle.store.specs.Good.{rule_of, Good};

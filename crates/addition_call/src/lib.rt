@@ -1,5 +1,7 @@
 // The host's calls that add a letter, at either end. Each tests its store and its letter, asks nothing
 // of the caller, and leaves every byte as the outcome of the call says.
+#![tactic(auto)]
+
 ghost use Rattle.std.specs.Prelude.{◌≡◌, ◌≤◌, length};
 ghost use Rattle.palindromes.specs.Word.{is_letter};
 ghost use Rattle.palindromes.specs.End.{at_left, at_right};

@@ -1,4 +1,6 @@
 // The four letters.
+#![tactic(auto)]
+
 ghost use Rattle.std.specs.Prelude.{◌≡◌};
 ghost use Rattle.palindromes.specs.Word.{is_letter, all_letters};
 

@@ -4,6 +4,8 @@
 // part. The sizes come first, so that no later test reads outside the store; the tour of the
 // letters meets the rows in the order in which their palindromes first end, so that no link is
 // followed that was not tested before; and what no palindrome accounts for is counted last.
+#![tactic(auto)]
+
 ghost use Rattle.std.specs.Prelude.{◌≡◌, length};
 ghost use Rattle.store.specs.Good.{Sized, Good};
 ghost use Rattle.audit_fixed.specs.Decides.{Decides};
@@ -15,7 +17,7 @@ use store::header;
 use store::letters::Side;
 
 // What a test comes to: the store is good, and what the reading of its letters told of its ends is told on; or it is not.
-#[derive(Drop)]
+#[derive(Clone, Copy)]
 pub enum Finding {
     Sound(Tour),
     Damaged,

@@ -1,5 +1,7 @@
 // The row that an edge leads to: whether it names the row and the letter that it is made of, and
 // whether its length, its link and its rank are those of a new palindrome's row.
+#![tactic(auto)]
+
 ghost use Rattle.std.specs.Prelude.{◌≡◌, ◌+◌, ◌*◌, ◌<◌, ◌≤◌, length};
 ghost use Rattle.store.specs.Layout.{cell, capacity_in};
 ghost use Rattle.store.specs.Good.{Sized};

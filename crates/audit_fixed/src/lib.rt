@@ -1,5 +1,7 @@
 // The parts of a good store that say nothing of its palindromes: the sizes, the letters, the places
 // after them and the roots.
+#![tactic(auto)]
+
 ghost use Rattle.std.specs.Prelude.{◌≡◌, true, ◌<◌};
 ghost use Rattle.palindromes.specs.Word.{all_letters};
 ghost use Rattle.store.specs.Layout.{letters_in};

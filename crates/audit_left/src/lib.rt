@@ -1,6 +1,8 @@
 // The left end of the letters as the tour reads on at the right: the longest palindrome that begins them, the longest that
 // begins them without the first, and whether the one stands in the other's letters. All three follow from the row of the
 // longest palindrome that ends the letters, so no letter is read a second time for the left end.
+#![tactic(auto)]
+
 ghost use Rattle.std.specs.Prelude.{◌≡◌, cond, ◌||◌, ℕ, ◌+◌, ◌*◌, ◌≤◌, ◌<◌, eqb, pos, length};
 ghost use Rattle.store.specs.Layout.{link_in};
 ghost use Rattle.audit_left.specs.Left.{LeftNew};

@@ -1,6 +1,8 @@
 // What a store must carry of the lengths of its palindromes, counted in an array of its own as the tour of the letters
 // meets their rows: how many have length k at place k + 1, as it lies beside row k + 1 of the store, and the largest
 // length at place 1.
+#![tactic(auto)]
+
 ghost use Rattle.std.specs.Prelude.{◌≡◌, ◌<◌, length, get_or};
 ghost use Rattle.store.specs.Layout.{cell};
 ghost use Rattle.audit_lengths.specs.Lengths.{Countable, Counted};

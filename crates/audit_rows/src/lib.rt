@@ -2,6 +2,8 @@
 // to it. So what is left to ask of all rows is counted: no more edges lead anywhere, and no more rows say anything, than
 // rows were met. The order of the rows is a sparse set: where each row has a place of its own there is none without a row,
 // since there are as many.
+#![tactic(auto)]
+
 ghost use Rattle.std.specs.Prelude.{◌≡◌, ◌+◌, ◌*◌, ◌≤◌, length};
 ghost use Rattle.store.specs.Good.{Sized};
 ghost use Rattle.audit_fixed.specs.Decides.{Decides};

@@ -2,6 +2,8 @@
 // letters so far, each letter leads to the row of the next one. A row is tested when it is first
 // met, and marked, and its length is counted. What the tour knows of both ends once all letters are
 // read is all that a removal or a question about an end asks, so that neither reads them again.
+#![tactic(auto)]
+
 ghost use Rattle.std.specs.Prelude.{◌≡◌, ◌+◌};
 ghost use Rattle.store.specs.Layout.{letters_in};
 ghost use Rattle.store.specs.Side.{end_of};
@@ -24,7 +26,7 @@ use walk::frame::{Frame, frame_of, standing};
 // longest there one letter before, and whether the first was known then. Of the left end: the row of the longest there, the
 // row of the longest without the first letter, and whether the first stands without it again. And how many rows were met.
 // The numbers lie side by side, not in a struct for either end, so that each stays in a register of its own.
-#[derive(Drop)]
+#[derive(Clone, Copy)]
 pub struct Tour {
     pub row: usize,
     pub before: usize,
@@ -36,7 +38,7 @@ pub struct Tour {
 }
 
 // What a letter leads to: the tour goes on, or the store is not good.
-#[derive(Drop)]
+#[derive(Clone, Copy)]
 pub enum Visit {
     Next(Tour),
     Broken,

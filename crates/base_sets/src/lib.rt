@@ -1,4 +1,6 @@
 // The four-bit sets of the bases that codes stand for, and a text read into them.
+#![tactic(auto)]
+
 ghost use Rattle.std.specs.Prelude.{◌≡◌, true, ◌≤◌, length};
 ghost use Rattle.ambiguity.specs.Code.{set_of, all_codes};
 ghost use Rattle.base_sets.specs.Sets.{letter_sets, certain_of, SetsRead};

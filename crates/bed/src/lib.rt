@@ -1,6 +1,8 @@
 // BED lines, an identifier, a tab, the start, a tab, the end, an LF: each function is proved to
 // answer, or to write, what specs/Bed.antt of the crate palindromes says. What is written goes into a
 // buffer that the caller lends, from a place on, and the answer is the place behind it.
+#![tactic(auto)]
+
 ghost use Rattle.std.specs.Prelude.{◌≡◌, ◌+◌, ◌<◌, ◌≤◌, length};
 ghost use Rattle.std.proofs.lemmas.List.Edits.{sets};
 ghost use Rattle.palindromes.specs.Bed.{bed_line};

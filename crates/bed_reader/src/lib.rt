@@ -1,19 +1,21 @@
 // A BED line of three fields, read: they stand between tabs, and the second and the third are numbers.
 // Each function is proved to answer what specs/Sheet.antt of the crate palindromes says.
+#![tactic(auto)]
+
 ghost use Rattle.std.specs.Prelude.{◌≡◌};
 ghost use Rattle.palindromes.specs.Word.{same_word};
 ghost use Rattle.palindromes.specs.Sheet.{needless_zero, split, line_of};
 ghost use Rattle.bed_reader.specs.Reading.{place_of, number_of, parsed_of};
 
 // What a field says: a number, or none.
-#[derive(Drop)]
+#[derive(Clone, Copy)]
 pub enum Number {
     Value(usize),
     NoNumber,
 }
 
 // A line: whether its identifier is the one given, and its two numbers.
-#[derive(Drop)]
+#[derive(Clone, Copy)]
 pub struct Entry {
     pub agrees: bool,
     pub start: usize,
@@ -21,7 +23,7 @@ pub struct Entry {
 }
 
 // What the bytes before an LF are: a line, or none.
-#[derive(Drop)]
+#[derive(Clone, Copy)]
 pub enum Parsed {
     ALine(Entry),
     NoLine,

@@ -1,5 +1,7 @@
 // Additions with no test of the store between them, exported for the benchmark alone: a record of
 // capacity 1,024 is opened and letters are added at its right end, as mirrorlist does.
+#![tactic(auto)]
+
 ghost use Rattle.bench_fill.specs.Fills.{Fills};
 
 use alphabet::all_letters;

@@ -1,4 +1,6 @@
 // How many rows the factorization of a record visits, exported for the benchmark alone: the call of the host answers the factors.
+#![tactic(auto)]
+
 ghost use Rattle.bench_series.specs.Visited.{Visited};
 
 use factorization::factorize;

@@ -1,5 +1,7 @@
 // A bitmap: a bit for each number of a window, eight to a byte. The window begins with `from` and has as
 // many numbers as the buffer has bits.
+#![tactic(auto)]
+
 ghost use Rattle.std.specs.Prelude.{◌≡◌, ◌&&◌, not, cond, ◌-◌};
 ghost use Rattle.bitmap.specs.Bitmap.{bit_at, with_bit, in_window};
 

@@ -1,5 +1,7 @@
 // Decimal digits, without leading zeros, as specs/Bed.antt of the crate palindromes says. They are
 // written into a buffer that the caller lends, from a place on.
+#![tactic(auto)]
+
 ghost use Rattle.std.specs.Prelude.{◌≡◌, ◌+◌, ◌<◌, ◌≤◌, length};
 ghost use Rattle.std.proofs.lemmas.List.Edits.{sets};
 ghost use Rattle.palindromes.specs.Bed.{decimal};

@@ -1,5 +1,7 @@
 // The ends of a record: what is known of one before its letter goes, and what an addition and a removal share, the number
 // of letters and the rows of both ends.
+#![tactic(auto)]
+
 ghost use Rattle.std.specs.Prelude.{◌≡◌, ◌<◌, ◌≤◌, length};
 ghost use Rattle.store.specs.Side.{end_of};
 ghost use Rattle.store.specs.Writes.{writes};
@@ -10,7 +12,7 @@ use store::{header, letters};
 
 // What is known of an end: the row of the longest palindrome there, the row of the longest that is there without the end's
 // own letter, and whether the first stands without that letter too.
-#[derive(Drop)]
+#[derive(Clone, Copy)]
 pub struct Reach {
     pub row: usize,
     pub short: usize,

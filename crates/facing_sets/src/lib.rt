@@ -1,10 +1,12 @@
 // The longest stretches whose facing sets meet, around every centre, from the middle outwards: of the sets
 // of all codes, and of those of the certain ones.
+#![tactic(auto)]
+
 ghost use Rattle.std.specs.Prelude.{◌≡◌, ◌+◌, ◌≤◌, max, length};
 ghost use Rattle.facing_sets.specs.Search.{Within, Centre, Radius, MaximalRadius, Best, Better, Longest};
 
 // The length of the longest stretch for some choice of bases, and for every choice.
-#[derive(Drop)]
+#[derive(Clone, Copy)]
 pub struct Lengths {
     pub some: usize,
     pub every: usize,

@@ -1,5 +1,7 @@
 // The factorization of a record into the fewest palindromes: for each right end how many there are of the letters up to it, and where
 // the last of them begins; and their ends, traced back from the last one.
+#![tactic(auto)]
+
 ghost use Rattle.std.specs.Prelude.{◌≡◌, ◌+◌, ◌*◌, ◌≤◌, length, replicate};
 ghost use Rattle.std.proofs.lemmas.List.Edits.{sets};
 ghost use Rattle.palindromes.specs.Factorization.{palindromic_length, factor_ends, end_bytes};
@@ -40,7 +42,7 @@ fn fill(b: &[u8], lasts: &mut [u16], factors: &mut [u16], memos: &mut [u32]) -> 
 }
 
 // The fewest factors of a record, and how many series were passed to find them.
-#[derive(Drop)]
+#[derive(Clone, Copy)]
 pub struct Factors {
     pub number: usize,
     pub steps: usize,

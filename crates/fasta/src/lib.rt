@@ -1,4 +1,6 @@
 // The FASTA reader: it judges a whole text, and only then puts the letters into the lent buffer.
+#![tactic(auto)]
+
 ghost use Rattle.std.specs.Prelude.{◌≡◌, true, length, drop};
 ghost use Rattle.palindromes.specs.Fasta.{after_first_line, read_lines, with_identifier, read_fasta};
 ghost use Rattle.fasta.specs.Reader.{reading_of, written_to, Answers};
@@ -7,7 +9,7 @@ use fasta_first_line::{good_first_line, identifier_length, later_lines_at};
 use fasta_later_lines::{Tally, count_letters, write_letters};
 
 // What the reader answers: the identifier's length and the number of letters, or a refusal.
-#[derive(Drop)]
+#[derive(Clone, Copy)]
 pub enum Reading {
     Accepted(usize, usize),
     Refused(usize),

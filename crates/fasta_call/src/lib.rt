@@ -1,5 +1,7 @@
 // The host's call that reads a FASTA text. It asks nothing of the caller, and leaves the letters at the
 // front of the lent buffer, or every byte as it was.
+#![tactic(auto)]
+
 ghost use Rattle.std.specs.Prelude.{◌≡◌};
 ghost use Rattle.outcome.specs.Reply.{packed};
 ghost use Rattle.fasta_call.specs.Answer.{Small, reading_reply, FastaPromise};

@@ -1,4 +1,6 @@
 // The first line of a FASTA text: `>`, the identifier, and where the later lines begin.
+#![tactic(auto)]
+
 ghost use Rattle.std.specs.Prelude.{◌≡◌, ◌<◌, length, drop};
 ghost use Rattle.palindromes.specs.Fasta.{identifier_length, starts_with_lf, ends_identifier, good_first_line, after_first_line};
 

@@ -2,6 +2,8 @@
 // letters.
 //
 // A byte is read as its capital, so that a, c, g and t are letters too.
+#![tactic(auto)]
+
 ghost use Rattle.std.specs.Prelude.{◌≡◌, true, ◌+◌, ◌≤◌, ◌<◌, length, drop, get_or};
 ghost use Rattle.std.proofs.lemmas.List.Edits.{sets};
 ghost use Rattle.palindromes.specs.Word.{is_letter};
@@ -11,7 +13,7 @@ ghost use Rattle.fasta_later_lines.specs.Passes.{kind_named, tally_after, letter
 use fasta_first_line::lf_at;
 
 // What a byte of a later line is.
-#[derive(Drop)]
+#[derive(Clone, Copy)]
 pub enum ByteKind {
     SecondHeader,
     LineEnd,
@@ -21,7 +23,7 @@ pub enum ByteKind {
 }
 
 // What the later lines hold: so many letters, or the first fault's number.
-#[derive(Drop)]
+#[derive(Clone, Copy)]
 pub enum Tally {
     Letters(usize),
     Fault(usize),

@@ -1,6 +1,8 @@
 // Letters added at a side of a good store, one after the other. Nobody else has the store between two
 // letters, so it is not tested again at each. Every addition goes through this one loop, that of a single
 // letter too: so the compiler puts the addition into the loop, and a letter costs no call.
+#![tactic(auto)]
+
 ghost use Rattle.std.specs.Prelude.{◌≡◌, true, ◌+◌, ◌≤◌, length};
 ghost use Rattle.palindromes.specs.Word.{all_letters};
 ghost use Rattle.store.specs.Good.{Good};

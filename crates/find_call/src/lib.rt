@@ -1,5 +1,7 @@
 // The host's call that finds a piece. It tests its store and its piece, asks nothing of the caller, and
 // changes no byte.
+#![tactic(auto)]
+
 ghost use Rattle.palindromes.specs.Refusal.{ask, find};
 ghost use Rattle.outcome.specs.Promise.{nothing, Asked};
 ghost use Rattle.outcome.specs.Verdict.{Verdict};

@@ -1,5 +1,7 @@
 // The row of a palindrome that goes is made free: it is cleared, with the edge that leads to it, and
 // moved behind the rows in use.
+#![tactic(auto)]
+
 ghost use Rattle.std.specs.Prelude.{◌≡◌, ◌+◌, ◌*◌, ◌≤◌, length};
 ghost use Rattle.store.specs.Writes.{writes};
 ghost use Rattle.transitions.specs.Removal.{drop_writes};
@@ -10,7 +12,7 @@ use store::{header, rows};
 
 // What a row that goes leads to: its inner row and outer letter, its rank, the last place of the
 // order that is in use, and the row there.
-#[derive(Drop)]
+#[derive(Clone, Copy)]
 struct Leaf {
     pub inner: usize,
     pub outer: u8,

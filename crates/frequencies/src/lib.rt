@@ -1,5 +1,7 @@
 // How often each palindrome stands. First it is counted how often each is the longest at a right end; then the number of each row is
 // added to that of its link, backwards in the order in which the rows were met, so that a row has its whole number before it is handed on.
+#![tactic(auto)]
+
 ghost use Rattle.std.specs.Prelude.{◌≡◌, replicate};
 ghost use Rattle.palindromes.specs.Occurrences.{occurrences_by_row};
 ghost use Rattle.store.specs.Layout.{size_in, letters_in};

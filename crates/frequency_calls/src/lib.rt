@@ -1,5 +1,7 @@
 // The host's questions about how often repeats stand: one row's, and all of them counted by place. Each tests its store and its
 // argument, asks nothing of the caller, and changes no byte.
+#![tactic(auto)]
+
 ghost use Rattle.palindromes.specs.Refusal.{ask, the_frequency, the_occurrences};
 ghost use Rattle.outcome.specs.Promise.{nothing, Asked};
 ghost use Rattle.outcome.specs.Verdict.{Verdict};

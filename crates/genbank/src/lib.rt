@@ -1,6 +1,8 @@
 // A record printed as in the GenBank flat file, as specs/Genbank.antt of the crate palindromes says.
 // What is written goes into a buffer that the caller lends, from a place on, and the answer is the
 // place behind it.
+#![tactic(auto)]
+
 ghost use Rattle.std.specs.Prelude.{◌≡◌, [], ◌∷◌, ◌++◌, map, ◌+◌, ◌<◌, ◌≤◌, min, length, get_or, set, take};
 ghost use Rattle.std.proofs.lemmas.List.Edits.{sets};
 ghost use Rattle.palindromes.specs.Word.{Word};

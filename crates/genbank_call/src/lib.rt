@@ -1,5 +1,7 @@
 // The host's call that prints the record as in GenBank. It tests its store and its buffer, asks nothing
 // of the caller, and leaves every byte as the outcome of the call says.
+#![tactic(auto)]
+
 ghost use Rattle.std.specs.Prelude.{[], ◌≡◌, ◌≤◌, length};
 ghost use Rattle.std.proofs.lemmas.List.Edits.{sets};
 ghost use Rattle.palindromes.specs.Genbank.{genbank};

@@ -1,5 +1,7 @@
 // What a letter makes at an end of a good store: the longest palindrome there is found by a walk, and
 // where it stood nowhere before, the row to write for it.
+#![tactic(auto)]
+
 ghost use Rattle.std.specs.Prelude.{◌≡◌, true};
 ghost use Rattle.palindromes.specs.Word.{is_letter};
 ghost use Rattle.store.specs.Good.{rule_of, Good};
@@ -13,7 +15,7 @@ use walk::{Search, Walked, frame};
 
 // What a letter makes at an end: a palindrome that stood nowhere, with the row to write for it, or
 // one that stood before, in the row that is named; and how many rows the walk for it passed.
-#[derive(Drop)]
+#[derive(Clone, Copy)]
 pub enum Growth {
     Fresh(Row, usize),
     Stood(usize, usize),

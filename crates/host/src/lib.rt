@@ -1,5 +1,7 @@
 // The calls of a host in C, by the names of include/mirror.h. Each only hands on to a
 // function of the crate of its call, with the same promise, which holds for all bytes and all numbers.
+#![tactic(auto)]
+
 ghost use Rattle.palindromes.specs.Reading.{as_plain, as_inverted};
 ghost use Rattle.palindromes.specs.End.{at_left, at_right};
 ghost use Rattle.palindromes.specs.Refusal.{add, remove, turn, the_length, the_count, the_longest, the_longest_length, the_longest_at, the_letter, the_row};

@@ -1,5 +1,7 @@
 // Identifiers, 1 to 32 letters, digits or underscores: each function is proved to answer what
 // specs/Bed.antt of the crate palindromes says.
+#![tactic(auto)]
+
 ghost use Rattle.std.specs.Prelude.{◌≡◌, ◌&&◌, leb};
 ghost use Rattle.palindromes.specs.Bed.{is_identifier_byte, is_identifier};
 

@@ -1,5 +1,7 @@
 // A letter that brings in a palindrome is added: the palindrome's row is hung into the table, in the
 // next free row.
+#![tactic(auto)]
+
 ghost use Rattle.std.specs.Prelude.{◌≡◌, ◌+◌, ◌*◌, ◌<◌, ◌≤◌, length};
 ghost use Rattle.store.specs.Good.{Good};
 ghost use Rattle.store.specs.Layout.{capacity_in, size_in};

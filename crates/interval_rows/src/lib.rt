@@ -2,6 +2,8 @@
 // ends, down the links to one that is as long. Besides its link each row has a jump to a row further
 // down, so that the way has a number of steps in the order of the logarithm of the chain's length (Myers,
 // An applicative random-access stack, 1983). Which jumps there are matters to the time alone.
+#![tactic(auto)]
+
 ghost use Rattle.std.specs.Prelude.{◌≡◌, ◌<◌, ◌≤◌, true, ◌⊎◌, length, replicate};
 ghost use Rattle.store.specs.Layout.{size_in, used_in};
 ghost use Rattle.store.specs.Good.{Good};

@@ -1,4 +1,6 @@
 // A letter joins or leaves an end of the record's letters, which move where it is the left end; and which letter stands there.
+#![tactic(auto)]
+
 ghost use Rattle.std.specs.Prelude.{◌≡◌, ◌++◌, ◌∷◌, [], ◌+◌, ◌<◌, ◌≤◌, length, take, drop};
 ghost use Rattle.std.proofs.lemmas.List.Edits.{sets};
 ghost use Rattle.palindromes.specs.End.{added, removed, letter_at};

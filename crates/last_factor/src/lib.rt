@@ -2,6 +2,8 @@
 // are met by series: along the links from a row the lengths fall by the same difference, and the places at which those of the series
 // begin are, but for the last, those of the series of the row's link at an earlier end. So the choice among them is kept with each
 // row, with the place at which the series begins, and taken up again where that place and the difference are the same.
+#![tactic(auto)]
+
 ghost use Rattle.std.specs.Prelude.{◌≡◌, ◌+◌, ◌-◌, ◌≤◌, ◌<◌, length, get_or};
 ghost use Rattle.palindromes.specs.Factorization.{better};
 ghost use Rattle.store.specs.Good.{Good};
@@ -56,7 +58,7 @@ fn better_of(factors: &[u16], a: usize, q: usize) -> usize
 }
 
 // The chosen place of a series, and the row after it.
-#[derive(Drop)]
+#[derive(Clone, Copy)]
 struct Series {
     place: usize,
     next: usize,
@@ -94,7 +96,7 @@ fn jump(b: &[u8], i: usize, row: usize, factors: &[u16], memos: &[u32]) -> Serie
 }
 
 // Where a last factor begins, and how many series were passed to find it.
-#[derive(Drop)]
+#[derive(Clone, Copy)]
 pub struct LastFactor {
     pub start: usize,
     pub turns: usize,

@@ -1,5 +1,7 @@
 // What a store carries of the lengths of its palindromes, once one of them comes or goes: how many there are of its
 // length, and the largest length.
+#![tactic(auto)]
+
 ghost use Rattle.std.specs.Prelude.{◌≡◌, true, ◌+◌, ◌*◌, ◌≤◌, ◌<◌, max, length};
 ghost use Rattle.palindromes.specs.Record.{count_of_length};
 ghost use Rattle.store.specs.Good.{rule_of, Good};
@@ -11,7 +13,7 @@ use store::lengths::to_stored;
 use store::{header, rows};
 
 // A length, how many palindromes have it, and the largest length of one.
-#[derive(Drop)]
+#[derive(Clone, Copy)]
 pub struct Carried {
     pub length: usize,
     pub count: usize,

@@ -1,4 +1,6 @@
 // A line of a sheet, marked: with a bit for each palindrome that a right line above it names, at its rank.
+#![tactic(auto)]
+
 ghost use Rattle.std.specs.Prelude.{◌+◌, ◌<◌};
 ghost use Rattle.store.specs.Good.{Good};
 ghost use Rattle.end_rows.specs.EndRows.{EndRows};
@@ -12,7 +14,7 @@ use store::header;
 use store::rows::{Row, rank_of};
 
 // What a line is worth.
-#[derive(Drop)]
+#[derive(Clone, Copy)]
 pub enum LineMark {
     Right,
     Repeated,
@@ -20,7 +22,7 @@ pub enum LineMark {
 }
 
 // How many lines are right, repeated and wrong so far.
-#[derive(Drop)]
+#[derive(Clone, Copy)]
 pub struct SoFar {
     pub right: u64,
     pub repeated: u64,

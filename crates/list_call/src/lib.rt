@@ -1,5 +1,7 @@
 // The host's call that lists the repeats. It tests its store and its buffers, asks nothing of the caller,
 // and leaves every byte as the outcome of the call says.
+#![tactic(auto)]
+
 ghost use Rattle.palindromes.specs.Refusal.{ask, list};
 ghost use Rattle.outcome.specs.Promise.{lending, Asked};
 ghost use Rattle.outcome.specs.Verdict.{Verdict};

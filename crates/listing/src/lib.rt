@@ -1,5 +1,7 @@
 // The list of a good store's palindromes as BED lines, each at its first place, ordered by end. Of each
 // palindrome that has stood it keeps one bit.
+#![tactic(auto)]
+
 mod meeting;
 
 ghost use Rattle.std.specs.Prelude.{◌≡◌, true, ◌+◌, ◌*◌, ◌≤◌, length, replicate};

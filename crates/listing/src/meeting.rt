@@ -13,7 +13,7 @@ use walk::replay;
 
 // What one letter more brings: the row of the longest palindrome that ends there, and whether that is
 // one of the window and stands there for the first time.
-#[derive(Drop)]
+#[derive(Clone, Copy)]
 pub struct Meeting {
     pub row: usize,
     pub first: bool,

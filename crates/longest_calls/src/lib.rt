@@ -1,5 +1,7 @@
 // The host's questions about the longest repeat, of all or at an end. Each tests its store, asks nothing
 // of the caller, and changes no byte.
+#![tactic(auto)]
+
 ghost use Rattle.palindromes.specs.End.{at_left, at_right};
 ghost use Rattle.palindromes.specs.Refusal.{ask, the_longest, the_longest_at};
 ghost use Rattle.store.specs.Side.{end_of};

@@ -14,7 +14,7 @@ use store::header;
 use store::letters::Side;
 
 // The row of the longest palindrome at an end, and whether that stands once only.
-#[derive(Drop)]
+#[derive(Clone, Copy)]
 pub struct AtEnd {
     pub row: usize,
     pub once: bool,

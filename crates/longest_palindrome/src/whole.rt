@@ -11,7 +11,7 @@ use walk::frame::frame_of;
 use walk::replay;
 
 // A length and a place, both 0 where the record has no palindrome.
-#[derive(Drop)]
+#[derive(Clone, Copy)]
 pub struct LongestAnswer {
     pub length: usize,
     pub place: usize,

@@ -1,5 +1,7 @@
 // The host's call that marks a sheet of BED lines. It tests its store, the identifier, the sheet and the
 // mark sheet, asks nothing of the caller, and leaves every byte as the outcome of the call says.
+#![tactic(auto)]
+
 ghost use Rattle.std.specs.Prelude.{◌≡◌, ◌&&◌, eqb};
 ghost use Rattle.palindromes.specs.Refusal.{mark};
 ghost use Rattle.outcome.specs.Promise.{AskedInto};

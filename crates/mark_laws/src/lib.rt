@@ -1,1 +1,2 @@
 // Laws of the marks of a sheet; no code.
+#![tactic(auto)]

@@ -1,4 +1,6 @@
 // A sheet, marked line by line. The counts are values; who calls decides where they go.
+#![tactic(auto)]
+
 ghost use Rattle.std.specs.Prelude.{◌≡◌, replicate};
 ghost use Rattle.store.specs.Good.{Good};
 ghost use Rattle.end_rows.specs.EndRows.{EndRows};
@@ -13,7 +15,7 @@ use store::header;
 
 // What a sheet is worth: how many lines are right, repeated and wrong, and how many palindromes are
 // missing; or that it is no sheet.
-#[derive(Drop)]
+#[derive(Clone, Copy)]
 pub enum SheetMarks {
     Counted(u64, u64, u64, u64),
     NoSheet,

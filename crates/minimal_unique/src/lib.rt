@@ -1,5 +1,7 @@
 // The minimal unique palindromes of a good store, by where they stand. Each is the longest palindrome at its right end and
 // first met there, so one pass over the rows that are first met has them in the order of their ends, which is that of their starts.
+#![tactic(auto)]
+
 ghost use Rattle.std.specs.Prelude.{◌≡◌, true, [], ◌∷◌, ◌+◌, ◌≤◌, ◌<◌, length};
 ghost use Rattle.std.proofs.lemmas.List.Edits.{sets};
 ghost use Rattle.palindromes.specs.Node.{spelling_of};

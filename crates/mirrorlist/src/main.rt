@@ -2,6 +2,8 @@
 // letters. All that it does is to read and to write; what is printed is said in the crate printing.
 //
 // One byte more is read than a text may have, so that a text that is too long is seen to be one.
+#![tactic(auto)]
+
 ghost use Rattle.std.specs.Prelude.{◌≡◌, length};
 ghost use Rattle.mirrorlist.specs.Reading.{Within};
 
@@ -22,7 +24,7 @@ fn lines_buffer() -> [u8; 46080]
 }
 
 // What reading standard input came to: so many bytes, or a read that failed.
-#[derive(Drop)]
+#[derive(Clone, Copy)]
 enum Input {
     Read(usize),
     Failed,

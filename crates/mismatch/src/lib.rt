@@ -1,5 +1,7 @@
 // The comparison of a word with its reversal under a partner rule, which is lent as a table of
 // partners: specs/Rule.antt.
+#![tactic(auto)]
+
 ghost use Rattle.std.specs.Prelude.{◌≡◌, ◌≤◌, length};
 ghost use Rattle.palindromes.specs.Mismatch.{Mismatch};
 ghost use Rattle.mismatch.specs.Rule.{rule_of};

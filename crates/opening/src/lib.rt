@@ -1,4 +1,6 @@
 // Opening: an empty record of a given capacity, in either reading, whatever the bytes held.
+#![tactic(auto)]
+
 ghost use Rattle.std.specs.Prelude.{◌≡◌, ◌+◌, ◌*◌, ◌≤◌, length};
 ghost use Rattle.palindromes.specs.Reading.{reading_number};
 ghost use Rattle.palindromes.specs.Refusal.{store_size};
@@ -11,7 +13,7 @@ use store::rows::Row;
 use store::{bytes, header, rows};
 
 // How a record is read.
-#[derive(Drop)]
+#[derive(Clone, Copy)]
 pub enum Reading {
     Plain,
     Inverted,

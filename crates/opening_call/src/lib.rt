@@ -1,5 +1,7 @@
 // The host's calls that open a record, in either reading. They test their store's length and their
 // argument, ask nothing of the caller, and leave every byte as the outcome of the call says.
+#![tactic(auto)]
+
 ghost use Rattle.palindromes.specs.Reading.{as_plain, as_inverted};
 ghost use Rattle.opening.specs.Ways.{way_of};
 ghost use Rattle.outcome.specs.Promise.{OpeningPromise};

@@ -9,14 +9,14 @@ use store::cells::wide;
 
 // What an addition answers: the row of the palindrome that came in, or that none did, and how many
 // candidates were passed in the search for it.
-#[derive(Drop)]
+#[derive(Clone, Copy)]
 pub enum Added {
     New(usize, usize),
     Known(usize),
 }
 
 // What a removal answers: the letter, and the row of the palindrome that went, if one did.
-#[derive(Drop)]
+#[derive(Clone, Copy)]
 pub enum Removed {
     Gone(u8, usize),
     Kept(u8),
@@ -24,7 +24,7 @@ pub enum Removed {
 
 // What a search answers: the row of a palindrome of the record, or that the piece is none, and where
 // the piece and its reversal disagree first.
-#[derive(Drop)]
+#[derive(Clone, Copy)]
 pub enum Found {
     At(usize, usize),
     Absent(usize),

@@ -1,5 +1,7 @@
 // What every call answers and leaves in the lent bytes, in specs/, and the packing of an answer
 // into one number.
+#![tactic(auto)]
+
 pub mod answers;
 
 ghost use Rattle.std.specs.Prelude.{◌≡◌, ◌<◌};

@@ -1,5 +1,7 @@
 // The partners of letters: one table of all byte values for inverted records, and for either reading a
 // table of all byte values or of the four letters.
+#![tactic(auto)]
+
 ghost use Rattle.std.specs.Prelude.{◌≡◌, get_or};
 ghost use Rattle.partners.specs.Table.{PartnersIn, place_of, LetterPartners};
 

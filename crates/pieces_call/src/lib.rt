@@ -1,5 +1,7 @@
 // The host's call that cuts a record into the fewest repeats. It tests its store and its buffer, asks nothing of the caller,
 // and leaves every byte as the outcome of the call says.
+#![tactic(auto)]
+
 ghost use Rattle.palindromes.specs.Refusal.{the_pieces};
 ghost use Rattle.outcome.specs.Promise.{AskedInto};
 

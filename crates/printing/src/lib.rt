@@ -1,5 +1,7 @@
 // From the bytes of a FASTA text to the bytes that mirrorlist prints: a text that is too long is
 // refused before it is read.
+#![tactic(auto)]
+
 ghost use Rattle.std.specs.Prelude.{◌≡◌, ◌≤◌, length};
 ghost use Rattle.std.proofs.lemmas.List.Edits.{sets};
 ghost use Rattle.printing.specs.Printed.{printed};

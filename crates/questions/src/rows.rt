@@ -24,7 +24,7 @@ pub fn is_used(b: &[u8], r: usize) -> bool
 
 // What the row question answers: the signed length of the row's palindrome, the row of its longest
 // proper suffix and the row of what stands between its outer letters.
-#[derive(Drop)]
+#[derive(Clone, Copy)]
 pub struct RowAnswer {
     pub length: i32,
     pub link: usize,

@@ -1,6 +1,8 @@
 // The host's questions about the record: its length, how many repeats stand, how long the longest is, and the
 // letter at a place.
 // Each tests its store and its argument, asks nothing of the caller, and changes no byte.
+#![tactic(auto)]
+
 ghost use Rattle.palindromes.specs.Refusal.{ask, the_length, the_count, the_longest_length, the_letter};
 ghost use Rattle.outcome.specs.Promise.{nothing, Asked};
 ghost use Rattle.outcome.specs.Verdict.{Verdict};

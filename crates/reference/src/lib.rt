@@ -4,6 +4,8 @@
 // Each answers a number of 64 bits; a truth value is 1 or 0. A slice is passed as its pointer and its
 // length, and a partner rule is lent as a table of partners: specs/Rule.antt of the crate
 // mismatch. Each contract is the inner function's. No function has a `requires`.
+#![tactic(auto)]
+
 ghost use Rattle.std.specs.Prelude.{◌≡◌, cond, [], length, get_or, drop};
 ghost use Rattle.palindromes.specs.Palindrome.{first_mismatch, is_symmetric, is_palindrome};
 ghost use Rattle.palindromes.specs.Place.{starts_with, frequency, first_place, stands, stands_once};

@@ -1,6 +1,8 @@
 // The longest palindrome at each end of a record, and the suffix link of a palindrome.
 //
 // The functions are slow and plain: each is proved equal to a definition, so that it can be run.
+#![tactic(auto)]
+
 ghost use Rattle.std.specs.Prelude.{◌≡◌, length};
 ghost use Rattle.palindromes.specs.Record.{longest_suffix, longest_prefix};
 ghost use Rattle.palindromes.specs.Node.{spelt, spelling_of, link_of};

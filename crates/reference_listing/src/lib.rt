@@ -5,6 +5,8 @@
 // under any rule, and there are no more palindromes than letters.
 //
 // The functions are slow and plain: each is proved equal to a definition, so that it can be run.
+#![tactic(auto)]
+
 ghost use Rattle.std.specs.Prelude.{◌≡◌, [], ◌≤◌, length, get_or};
 ghost use Rattle.palindromes.specs.Place.{first_place};
 ghost use Rattle.palindromes.specs.Record.{palindromes};
@@ -44,7 +46,7 @@ pub fn count(rule: &[u8], s: &[u8]) -> usize
 }
 
 // A stretch of a record: the letters from start up to, not including, end.
-#[derive(Drop)]
+#[derive(Clone, Copy)]
 struct Stretch {
     start: usize,
     end: usize,

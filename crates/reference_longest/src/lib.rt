@@ -2,6 +2,8 @@
 // by end, as the crate reference_listing does.
 //
 // The functions are slow and plain: each is proved equal to a definition, so that it can be run.
+#![tactic(auto)]
+
 ghost use Rattle.std.specs.Prelude.{◌≡◌, cond, min};
 ghost use Rattle.palindromes.specs.Record.{longest_length, longest_place};
 ghost use Rattle.mismatch.specs.Rule.{rule_of};

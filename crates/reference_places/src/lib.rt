@@ -1,6 +1,8 @@
 // Where a piece stands in a record.
 //
 // The functions are slow and plain: each is proved equal to a definition, so that it can be run.
+#![tactic(auto)]
+
 ghost use Rattle.std.specs.Prelude.{◌≡◌, drop};
 ghost use Rattle.palindromes.specs.Place.{starts_with, stands_once, first_place};
 ghost use Rattle.palindromes.specs.Place.{frequency as Place·frequency, stands as Place·stands};

@@ -2,6 +2,8 @@
 // specs/Rule.antt of the crate mismatch.
 //
 // The functions are slow and plain: each is proved equal to a definition, so that it can be run.
+#![tactic(auto)]
+
 ghost use Rattle.std.specs.Prelude.{◌≡◌};
 ghost use Rattle.palindromes.specs.Palindrome.{first_mismatch, is_symmetric, is_palindrome};
 ghost use Rattle.mismatch.specs.Rule.{rule_of};

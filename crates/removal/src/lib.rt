@@ -1,5 +1,7 @@
 // A removal. Whether the longest palindrome at the end still stands, and which is the longest there without the letter, is
 // told by whoever read the letters: a test of the store does.
+#![tactic(auto)]
+
 ghost use Rattle.std.specs.Prelude.{◌≡◌, true, false, ◌<◌};
 ghost use Rattle.store.specs.Good.{Good};
 ghost use Rattle.store.specs.Layout.{size_in, used_in, letters_in};
@@ -16,7 +18,7 @@ use walk::frame;
 
 // What a removal finds before it writes: the letter, the row of the longest palindrome at its end,
 // whether that stands without the letter, and the rows of both ends without it.
-#[derive(Drop)]
+#[derive(Clone, Copy)]
 struct Parting {
     pub letter: u8,
     pub row: usize,

@@ -1,5 +1,7 @@
 // The host's calls that remove a letter, at either end. Each tests its store, asks nothing of the caller,
 // and leaves every byte as the outcome of the call says.
+#![tactic(auto)]
+
 ghost use Rattle.palindromes.specs.End.{at_left, at_right};
 ghost use Rattle.palindromes.specs.Refusal.{remove};
 ghost use Rattle.std.specs.Prelude.{◌<◌};

@@ -1,5 +1,7 @@
 // The host's question about a row. It tests its store and its argument, asks nothing of the caller, and
 // changes no byte.
+#![tactic(auto)]
+
 ghost use Rattle.std.specs.Prelude.{◌≡◌, ◌<◌};
 ghost use Rattle.palindromes.specs.Refusal.{ask, the_row};
 ghost use Rattle.store.specs.Lengths.{Stored};

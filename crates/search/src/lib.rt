@@ -1,5 +1,7 @@
 // The search for a piece among the palindromes of a good store's record: the piece is compared with
 // its reversal from the outside, and one that agrees is looked for from its centre outwards.
+#![tactic(auto)]
+
 ghost use Rattle.std.specs.Prelude.{◌≡◌, true, cond, ◌<◌, ◌%◌, min, eqb, length};
 ghost use Rattle.palindromes.specs.Word.{all_letters};
 ghost use Rattle.palindromes.specs.Palindrome.{Symmetric};
@@ -13,7 +15,7 @@ use store::rows::Row;
 use store::{header, rows};
 
 // Where the edges from the centre of a piece lead: to the piece's row, or nowhere.
-#[derive(Drop)]
+#[derive(Clone, Copy)]
 pub enum Reached {
     At(usize),
     Nowhere,

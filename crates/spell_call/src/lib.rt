@@ -1,5 +1,7 @@
 // The host's call that spells a row. It tests its store and its buffer, asks nothing of the caller, and
 // leaves every byte as the outcome of the call says.
+#![tactic(auto)]
+
 ghost use Rattle.std.specs.Prelude.{[]};
 ghost use Rattle.palindromes.specs.Refusal.{ask, spell};
 ghost use Rattle.outcome.specs.Promise.{lending, AskedInto};

@@ -1,5 +1,7 @@
 // Spelling a row of a good store: how many letters its palindrome has, and the palindrome itself,
 // written outwards from the inner row into a lent buffer.
+#![tactic(auto)]
+
 ghost use Rattle.std.specs.Prelude.{◌≡◌, true, ◌+◌, ◌≤◌, ◌<◌, length};
 ghost use Rattle.std.proofs.lemmas.List.Edits.{sets};
 ghost use Rattle.palindromes.specs.Node.{spelling_of};

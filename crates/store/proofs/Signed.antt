@@ -36,7 +36,7 @@ stored_is s = rw s.is (of s.number)
 module _ {z : ℤ} (s : Stored z) where
   -- a stored length is read back as it is
   pub kept : to_z w32 (of_z w32 z) ≡ z
-  kept = to_z-of_z (rw s.is (length-fits s.number (omega arith)))
+  kept = to_z-of_z {w = w32} (rw s.is (length-fits s.number (omega arith)))
 
   -- so a number added to a length is added to what stores it
   pub sum : (k : ℕ) → to_z w32 (of_z w32 z) +ℤ pos k ≡ pred_ℤ (pos (s.number + k))
@@ -46,7 +46,7 @@ module _ {z : ℤ} (s : Stored z) where
   sum_fits k h = rw (sum k) (length-fits (s.number + k) (omega arith))
 
   pub sum_kept : (k : ℕ) → k ≤ 2 → to_z w32 (of_z w32 (to_z w32 (of_z w32 z) +ℤ pos k)) ≡ pred_ℤ (pos (s.number + k))
-  sum_kept k h = to_z-of_z (sum_fits k h) ∙ sum k
+  sum_kept k h = to_z-of_z {w = w32} (sum_fits k h) ∙ sum k
 
   -- one more than a length is the number that stores it
   pub one_more : to_z w32 (of_z w32 (to_z w32 (of_z w32 z) +ℤ pos 1)) ≡ pos s.number

@@ -5,7 +5,7 @@ ghost use Rattle.std.proofs.Math.IntN.{pred_ℤ};
 ghost use Rattle.store.specs.Lengths.{Stored, place_before};
 
 // Where a letter stands that is to be compared, or that there is none.
-#[derive(Drop)]
+#[derive(Clone, Copy)]
 pub enum Place {
     At(usize),
     Outside,

@@ -4,7 +4,7 @@ ghost use Rattle.palindromes.specs.End.{other};
 ghost use Rattle.store.specs.Side.{end_of};
 
 // The end that a call works at.
-#[derive(Drop)]
+#[derive(Clone, Copy)]
 pub enum Side {
     Left,
     Right,

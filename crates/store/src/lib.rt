@@ -2,6 +2,8 @@
 //
 // The layout is specs/Layout.antt. These functions rely on the sizes that their `requires` name;
 // the calls offered outside test a store before they use one.
+#![tactic(auto)]
+
 pub mod bytes;
 pub mod cells;
 pub mod header;

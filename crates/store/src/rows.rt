@@ -8,7 +8,7 @@ use super::{cells, lengths};
 
 // What a row says of its palindrome, edges apart: its signed length, the row of its longest proper
 // suffix, the row of what stands between its outer letters, and its last letter.
-#[derive(Drop)]
+#[derive(Clone, Copy)]
 pub struct Row {
     pub length: i32,
     pub link: usize,

@@ -1,5 +1,7 @@
 // What the palindromes that end the letters at a right end come to, one link after the other: whether a given one is among them,
 // and how many there are. The number of a row follows from that of its link, which was met before it.
+#![tactic(auto)]
+
 ghost use Rattle.std.specs.Prelude.{◌≡◌, true, ◌≤◌, ◌<◌, length, get_or, replicate};
 ghost use Rattle.palindromes.specs.Place.{frequency};
 ghost use Rattle.palindromes.specs.Occurrences.{occurrences_by_end};

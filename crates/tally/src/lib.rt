@@ -1,11 +1,13 @@
 // A mark sheet: how many lines of a sheet are right, repeated and wrong, and how many palindromes are
 // missing. Within the library it is a struct, and the host lends it as 32 bytes.
+#![tactic(auto)]
+
 ghost use Rattle.std.specs.Prelude.{◌≡◌, ◌+◌, ◌≤◌, ◌<◌, length, take, drop};
 ghost use Rattle.std.proofs.lemmas.List.Edits.{sets};
 ghost use Rattle.palindromes.specs.Marks.{low_bytes, from_bytes, counts_bytes, counts_read};
 ghost use Rattle.tally.specs.Counts.{counts_in, four_counts};
 
-#[derive(Drop)]
+#[derive(Clone, Copy)]
 pub struct Tally {
     pub right: u64,
     pub repeated: u64,

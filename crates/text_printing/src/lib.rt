@@ -1,5 +1,7 @@
 // What is printed for a FASTA text of any length: the text is read, its letters are added at the right
 // of a record of capacity 1,024, and the record's palindromes are listed; or its refusal is printed.
+#![tactic(auto)]
+
 ghost use Rattle.std.specs.Prelude.{◌≡◌, ◌≤◌, length, take};
 ghost use Rattle.std.proofs.lemmas.List.Edits.{sets};
 ghost use Rattle.palindromes.specs.Palindrome.{plain};

@@ -1,2 +1,3 @@
 // The theorem about every whole list of calls: what is claimed, in specs/, and its proof, in
 // proofs/. There is no code here: it speaks of calls that keep the contracts of the exported ones.
+#![tactic(auto)]

@@ -1,5 +1,7 @@
 // The host's calls that change the reading of a record. Each tests its store, asks nothing of the caller,
 // and leaves every byte as the outcome of the call says.
+#![tactic(auto)]
+
 ghost use Rattle.palindromes.specs.Reading.{as_plain, as_inverted};
 ghost use Rattle.palindromes.specs.Refusal.{turn};
 ghost use Rattle.opening.specs.Ways.{way_of};

@@ -1,5 +1,7 @@
 // A change of the reading: the letters of a record are set aside, the store is opened anew in the other
 // reading and with the same capacity, and the letters join it again at the right, in order.
+#![tactic(auto)]
+
 ghost use Rattle.std.specs.Prelude.{◌≡◌, ◌+◌, ◌≤◌, length, take, drop};
 ghost use Rattle.palindromes.specs.End.{at_right};
 ghost use Rattle.palindromes.specs.Reading.{reading_number};

@@ -1,5 +1,7 @@
 // The host's call that tells the two lengths of a text of uncertain bases. It asks nothing of the caller
 // and is lent no store.
+#![tactic(auto)]
+
 ghost use Rattle.uncertain_call.specs.Answer.{UncertainPromise};
 
 use base_sets::read_sets;

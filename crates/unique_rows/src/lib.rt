@@ -1,6 +1,8 @@
 // Which palindromes stand once only, from one reading of the letters. A row is marked where it is met: once, and again. What ends a
 // palindrome begins it too, so where a row is met first its link stands again; that is all that one letter more can change, since
 // whatever ends the link or a palindrome met before stood twice already.
+#![tactic(auto)]
+
 ghost use Rattle.std.specs.Prelude.{◌≡◌, true, ◌≤◌, length, replicate};
 ghost use Rattle.store.specs.Layout.{size_in, used_in};
 ghost use Rattle.store.specs.Good.{Good};

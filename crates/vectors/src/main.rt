@@ -1,5 +1,7 @@
 // Runs the reference functions, which are proved equal to the definitions, over figures that others
 // published, and writes a line for each fact. The file `stdout` has the published ones.
+#![tactic(auto)]
+
 mod repeated;
 mod rich;
 mod show;

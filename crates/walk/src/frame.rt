@@ -9,7 +9,7 @@ use store::letters::Side;
 
 // The partner rule's reading, the place of the first letter, how many letters stand, and how many
 // have room.
-#[derive(Drop)]
+#[derive(Clone, Copy)]
 pub struct Frame {
     pub reading: usize,
     pub base: usize,

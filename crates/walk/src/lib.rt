@@ -4,6 +4,8 @@
 // Letters are read towards a side, so one walk serves both ends. Nothing is written, and nothing
 // is asked of the store but that the letters of the frame lie within it, that the link chain does,
 // and that its lengths fall.
+#![tactic(auto)]
+
 pub mod frame;
 pub mod replay;
 
@@ -20,14 +22,14 @@ use store::rows::Row;
 use store::{lengths, rows};
 
 // Where a walk ends: at the row that the letter grows, or past the imaginary string.
-#[derive(Drop)]
+#[derive(Clone, Copy)]
 pub enum Walked {
     At(usize),
     Nothing,
 }
 
 // A walk: where it ended, and how many rows it passed before.
-#[derive(Drop)]
+#[derive(Clone, Copy)]
 pub struct Search {
     pub met: Walked,
     pub passed: usize,

@@ -9,23 +9,23 @@ use Rattle.store.proofs.Parts.{zeros-next}
 use Rattle.store.proofs.bytes.clear.Statement.{statement}
 use Rattle.store.proofs.bytes.clear.Tie as tie
 
-abbrev invariant-loop : tie.invariant-loop
+abbrev invariant-loop : tie.invariant-loop-i
 invariant-loop bytes₀ n i₀ bytes i = (i ≤ n) × (sets bytes i (replicate (n - i) 0) ≡ sets bytes₀ 0 (replicate n 0)) × (length bytes ≡ length bytes₀)
 
-abbrev decreases-loop : tie.decreases-loop
+abbrev decreases-loop : tie.decreases-loop-i
 decreases-loop bytes₀ n i₀ bytes i = n - i
 
-loop-holds : tie.Need-loop-init invariant-loop decreases-loop
+loop-holds : tie.Need-loop-i-init invariant-loop decreases-loop
 loop-holds c = let e : c.args.n - 0 ≡ c.args.n = omega arith in (omega arith, rw e refl, refl)
 
-loop-again : tie.Need-loop-preserved invariant-loop decreases-loop
+loop-again : tie.Need-loop-i-preserved invariant-loop decreases-loop
 loop-again c =
-    let i = c.before.loop in
-    (omega arith, zeros-next i.bytes i.i c.before.before.args.n c.loop-test.true ∙ i.invariant.1, simp length-set i.invariant.2)
+    let i = c.before.loop-i in
+    (omega arith, zeros-next i.bytes i.i c.before.before.args.n c.loop-i-test.true ∙ i.invariant.1, simp length-set i.invariant.2)
 
 returns : tie.Need-returns invariant-loop decreases-loop
 returns c =
-    let i = c.before.loop in
+    let i = c.before.loop-i in
     let e : c.before.before.args.n - i.i ≡ 0 = omega arith in
     rw e at i.invariant.1
 
@@ -40,5 +40,5 @@ clear_spec =
     (λ c. omega arith)
     (λ c. omega arith)
     loop-again
-    (λ c. c.before.loop.invariant.2)
+    (λ c. c.before.loop-i.invariant.2)
     returns)

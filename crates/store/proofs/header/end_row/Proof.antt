@@ -4,6 +4,6 @@ use Rattle.store.specs.Layout.{end_row}
 use Rattle.store.proofs.header.end_row.Statement.{statement}
 use Rattle.store.proofs.header.end_row.Tie as tie
 
-pub end-row-spec : {M : Type 1} → statement M
+pub end_row_spec : {M : Type 1} → statement M
 unfolding end_row
-end-row-spec = tie.close (tie.spec (λ c κs. search rules) (λ c κs. search rules) (λ c. (cc, search rules)))
+end_row_spec = tie.close (tie.spec (λ c κs. search rules) (λ c κs. search rules) (λ c. (cc, search rules)))

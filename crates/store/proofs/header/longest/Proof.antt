@@ -4,6 +4,6 @@ use Rattle.store.specs.Layout.{longest_length_in}
 use Rattle.store.proofs.header.longest.Statement.{statement}
 use Rattle.store.proofs.header.longest.Tie as tie
 
-pub longest-spec : {M : Type 1} → statement M
+pub longest_spec : {M : Type 1} → statement M
 unfolding longest_length_in
-longest-spec = tie.close (tie.spec (λ c κs. search rules) (λ c. search rules))
+longest_spec = tie.close (tie.spec (λ c κs. search rules) (λ c. search rules))

@@ -4,6 +4,6 @@ use Rattle.store.specs.Layout.{reading_in}
 use Rattle.store.proofs.header.reading.Statement.{statement}
 use Rattle.store.proofs.header.reading.Tie as tie
 
-pub reading-spec : {M : Type 1} → statement M
+pub reading_spec : {M : Type 1} → statement M
 unfolding reading_in
-reading-spec = tie.close (tie.spec (λ c κs. search rules) (λ c. search rules))
+reading_spec = tie.close (tie.spec (λ c κs. search rules) (λ c. search rules))

@@ -4,6 +4,6 @@ use Rattle.store.specs.Layout.{size_in}
 use Rattle.store.proofs.header.size.Statement.{statement}
 use Rattle.store.proofs.header.size.Tie as tie
 
-pub size-spec : {M : Type 1} → statement M
+pub size_spec : {M : Type 1} → statement M
 unfolding size_in
-size-spec = tie.close (tie.spec (λ c κs. search rules) (λ c. search rules))
+size_spec = tie.close (tie.spec (λ c κs. search rules) (λ c. search rules))

@@ -6,11 +6,11 @@ use Rattle.store.proofs.Signed.{kept}
 use Rattle.store.proofs.lengths.before.Statement.{statement}
 use Rattle.store.proofs.lengths.before.Tie as tie
 
-returns : tie.Need-returns
-returns c m e = rw (← (c.before.to-stored.ensures m (kept c.before.before.requires.1 ∙ e))) (simp (lt-leb _ _ c.if1.true))
+returns : tie.Need-returns-then-k-m
+returns c m e = rw (← (c.before.to_stored-m.ensures m (kept c.before.before.requires.1 ∙ e))) (simp (lt-leb _ _ c.if-k-m.true))
 
-returns-2 : tie.Need-returns-2
-returns-2 c m e = rw (← (c.before.to-stored.ensures m (kept c.before.before.requires.1 ∙ e))) (simp (le-leb _ _ c.if1.false))
+returns-2 : tie.Need-returns
+returns-2 c m e = rw (← (c.before.to_stored-m.ensures m (kept c.before.before.requires.1 ∙ e))) (simp (le-leb _ _ c.if-k-m.false))
 
-pub before-spec : {M : Type 1} → statement M
-before-spec = tie.close (tie.spec (λ c κs. search rules) returns returns-2)
+pub before_spec : {M : Type 1} → statement M
+before_spec = tie.close (tie.spec (λ c κs. search rules) returns returns-2)

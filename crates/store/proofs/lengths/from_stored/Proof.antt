@@ -7,11 +7,11 @@ use Rattle.store.proofs.Signed.{length-fits, less_one}
 use Rattle.store.proofs.lengths.from_stored.Statement.{statement}
 use Rattle.store.proofs.lengths.from_stored.Tie as tie
 
-sub-result : tie.Need-overflow-sub-result
+sub-result : tie.Need-overflow_sub-result
 sub-result c = rw (less_one c.args.m (omega arith)) (length-fits c.args.m (omega arith))
 
 returns : tie.Need-returns
 returns c = to_z-of_z (sub-result c) ∙ less_one c.args.m (omega arith)
 
-pub from-stored-spec : {M : Type 1} → statement M
-from-stored-spec = tie.close (tie.spec (λ c. search rules) sub-result returns)
+pub from_stored_spec : {M : Type 1} → statement M
+from_stored_spec = tie.close (tie.spec (λ c. search rules) sub-result returns)

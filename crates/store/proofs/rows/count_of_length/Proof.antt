@@ -8,5 +8,5 @@ returns : tie.Need-returns
 unfolding length_count_in
 returns c = c.get.ensures
 
-pub count-of-length-spec : {M : Type 1} → statement M
-count-of-length-spec = tie.close (tie.spec (λ c. search rules) (λ c κs. search rules) returns)
+pub count_of_length_spec : {M : Type 1} → statement M
+count_of_length_spec = tie.close (tie.spec (λ c. search rules) (λ c κs. search rules) returns)

@@ -5,14 +5,14 @@ use Rattle.store.specs.Layout.{edge_cell}
 use Rattle.store.proofs.rows.edge_cell.Statement.{statement}
 use Rattle.store.proofs.rows.edge_cell.Tie as tie
 
-returns-4 : tie.Need-returns-4
+returns-4 : tie.Need-returns-in_default
 unfolding edge_cell
 returns-4 c =
-    let others = c.match.rest in
+    let others = c.in_default.in_default-own.rest in
     (simp (ne_eqb _ 65 others.0.0.1, ne_eqb _ 67 others.0.1, ne_eqb _ 71 others.1), search rules, search rules)
 
-pub edge-cell-spec : {M : Type 1} → statement M
+pub edge_cell_spec : {M : Type 1} → statement M
 unfolding edge_cell
-edge-cell-spec =
+edge_cell_spec =
     tie.close
     (tie.spec (λ c. (cc, search rules, search rules)) (λ c. (cc, search rules, search rules)) (λ c. (cc, search rules, search rules)) returns-4)

@@ -4,6 +4,6 @@ use Rattle.store.specs.Layout.{edge_in}
 use Rattle.store.proofs.rows.edge_of.Statement.{statement}
 use Rattle.store.proofs.rows.edge_of.Tie as tie
 
-pub edge-of-spec : {M : Type 1} → statement M
+pub edge_of_spec : {M : Type 1} → statement M
 unfolding edge_in
-edge-of-spec = tie.close (tie.spec (λ c κs. search rules) (λ c κs. search rules) (λ c. (cc, search rules)))
+edge_of_spec = tie.close (tie.spec (λ c κs. search rules) (λ c κs. search rules) (λ c. (cc, search rules)))

@@ -4,6 +4,6 @@ use Rattle.store.specs.Layout.{inner_in}
 use Rattle.store.proofs.rows.inner_of.Statement.{statement}
 use Rattle.store.proofs.rows.inner_of.Tie as tie
 
-pub inner-of-spec : {M : Type 1} → statement M
+pub inner_of_spec : {M : Type 1} → statement M
 unfolding inner_in
-inner-of-spec = tie.close (tie.spec (λ c κs. search rules) (λ c. search rules))
+inner_of_spec = tie.close (tie.spec (λ c κs. search rules) (λ c. search rules))

@@ -11,8 +11,8 @@ use Rattle.store.proofs.rows.length_of.Tie as tie
 returns : tie.Need-returns
 unfolding length_in
 returns c =
-    let s : Stored c.from-stored.result = record { number = c.before.get.result; small = search rules; is = c.from-stored.ensures } in
-    rw (kept s) (c.from-stored.ensures ∙ ap (λ n. pred_ℤ (pos n)) c.before.get.ensures.0, s)
+    let s : Stored c.from_stored.result = record { number = c.before.get.result; small = search rules; is = c.from_stored.ensures } in
+    rw (kept s) (c.from_stored.ensures ∙ ap (λ n. pred_ℤ (pos n)) c.before.get.ensures.0, s)
 
-pub length-of-spec : {M : Type 1} → statement M
-length-of-spec = tie.close (tie.spec (λ c κs. search rules) (λ c κs. search rules) returns)
+pub length_of_spec : {M : Type 1} → statement M
+length_of_spec = tie.close (tie.spec (λ c κs. search rules) (λ c κs. search rules) returns)

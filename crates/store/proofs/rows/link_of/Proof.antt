@@ -4,6 +4,6 @@ use Rattle.store.specs.Layout.{link_in}
 use Rattle.store.proofs.rows.link_of.Statement.{statement}
 use Rattle.store.proofs.rows.link_of.Tie as tie
 
-pub link-of-spec : {M : Type 1} → statement M
+pub link_of_spec : {M : Type 1} → statement M
 unfolding link_in
-link-of-spec = tie.close (tie.spec (λ c κs. search rules) (λ c. search rules))
+link_of_spec = tie.close (tie.spec (λ c κs. search rules) (λ c. search rules))

@@ -8,5 +8,5 @@ returns : tie.Need-returns
 unfolding order_in
 returns c = c.get.ensures
 
-pub order-of-spec : {M : Type 1} → statement M
-order-of-spec = tie.close (tie.spec (λ c. search rules) (λ c κs. search rules) returns)
+pub order_of_spec : {M : Type 1} → statement M
+order_of_spec = tie.close (tie.spec (λ c. search rules) (λ c κs. search rules) returns)

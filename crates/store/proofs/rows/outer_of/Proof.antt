@@ -4,6 +4,6 @@ use Rattle.store.specs.Layout.{outer_in}
 use Rattle.store.proofs.rows.outer_of.Statement.{statement}
 use Rattle.store.proofs.rows.outer_of.Tie as tie
 
-pub outer-of-spec : {M : Type 1} → statement M
+pub outer_of_spec : {M : Type 1} → statement M
 unfolding outer_in
-outer-of-spec = tie.close (tie.spec (λ c κs. search rules) (λ c. search rules))
+outer_of_spec = tie.close (tie.spec (λ c κs. search rules) (λ c. search rules))

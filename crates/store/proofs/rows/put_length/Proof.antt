@@ -8,7 +8,7 @@ use Rattle.store.proofs.rows.put_length.Tie as tie
 returns : tie.Need-returns
 returns c =
     let s = c.before.before.before.before.before.before.requires.1 in
-    cc (c.before.before.before.to-stored.ensures s.number (kept s ∙ s.is) ∙ sym (stored_is s))
+    cc (c.before.before.before.to_stored.ensures s.number (kept s ∙ s.is) ∙ sym (stored_is s))
 
-pub put-length-spec : {M : Type 1} → statement M
-put-length-spec = tie.close (tie.spec (λ c κs. search rules) (λ c κs. search rules) (λ c. search rules) returns)
+pub put_length_spec : {M : Type 1} → statement M
+put_length_spec = tie.close (tie.spec (λ c κs. search rules) (λ c κs. search rules) (λ c. search rules) returns)

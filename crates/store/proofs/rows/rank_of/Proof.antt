@@ -8,5 +8,5 @@ returns : tie.Need-returns
 unfolding rank_in
 returns c = c.get.ensures
 
-pub rank-of-spec : {M : Type 1} → statement M
-rank-of-spec = tie.close (tie.spec (λ c κs. search rules) returns)
+pub rank_of_spec : {M : Type 1} → statement M
+rank_of_spec = tie.close (tie.spec (λ c κs. search rules) returns)
