@@ -12,14 +12,14 @@ use Rattle.partners.specs.Table.{place_of}
 use Rattle.partners.proofs.of_letters.Statement.{statement}
 use Rattle.partners.proofs.of_letters.Tie as tie
 
-returns : tie.Need-returns
+returns : tie.Need-returns-then-reading-eq1
 unfolding complement
 returns c x h =
-    letter-cases (λ (y : ℕ). get_or (84 ∷ 71 ∷ 65 ∷ 67 ∷ []) (place_of y) 0 ≡ complement y) refl refl refl refl x h ∙ sym (rule-inverted _ (eq-eqb _ 1 c.if1.true) x)
+    letter-cases (λ (y : ℕ). get_or (84 ∷ 71 ∷ 65 ∷ 67 ∷ []) (place_of y) 0 ≡ complement y) refl refl refl refl x h ∙ sym (rule-inverted _ (eq-eqb _ 1 c.if-reading-eq1.true) x)
 
-returns-2 : tie.Need-returns-2
+returns-2 : tie.Need-returns
 returns-2 c x h =
-    letter-cases (λ (y : ℕ). get_or (65 ∷ 67 ∷ 84 ∷ 71 ∷ []) (place_of y) 0 ≡ y) refl refl refl refl x h ∙ sym (rule-plain _ (ne_eqb _ 1 c.if1.false) x)
+    letter-cases (λ (y : ℕ). get_or (65 ∷ 67 ∷ 84 ∷ 71 ∷ []) (place_of y) 0 ≡ y) refl refl refl refl x h ∙ sym (rule-plain _ (ne_eqb _ 1 c.if-reading-eq1.false) x)
 
-pub of-letters-spec : {M : Type 1} → statement M
-of-letters-spec = tie.close (tie.spec (λ c. search rules) (λ c. search rules) (λ c. search rules) (λ c. search rules) returns returns-2)
+pub of_letters_spec : {M : Type 1} → statement M
+of_letters_spec = tie.close (tie.spec (λ c. search rules) (λ c. search rules) (λ c. search rules) (λ c. search rules) returns returns-2)

@@ -9,13 +9,13 @@ use Rattle.palindromes.proofs.Entries.{entries_from, entry_at}
 use Rattle.partners.proofs.table.Statement.{statement}
 use Rattle.partners.proofs.table.Tie as tie
 
-returns : tie.Need-returns
+returns : tie.Need-returns-then-reading-ne1
 unfolding entries_from complement
-returns c x h = entry_at plain x h ∙ sym (rule-plain _ (ne_eqb _ 1 c.if1.true) x)
+returns c x h = entry_at plain x h ∙ sym (rule-plain _ (ne_eqb _ 1 c.if-reading-ne1.true) x)
 
-returns-2 : tie.Need-returns-2
+returns-2 : tie.Need-returns-else-reading-ne1
 unfolding entries_from complement
-returns-2 c x h = entry_at complement x h ∙ sym (rule-inverted _ (eq-eqb _ 1 c.if1.false) x)
+returns-2 c x h = entry_at complement x h ∙ sym (rule-inverted _ (eq-eqb _ 1 c.if-reading-ne1.false) x)
 
-pub table-spec : {M : Type 1} → statement M
-table-spec = tie.close (tie.spec (λ c. search rules) (λ c. search rules) (λ c. search rules) (λ c. search rules) returns returns-2)
+pub table_spec : {M : Type 1} → statement M
+table_spec = tie.close (tie.spec (λ c. search rules) (λ c. search rules) (λ c. search rules) (λ c. search rules) returns returns-2)
