@@ -40,39 +40,39 @@ module _ (b t : Word) (k want row : ℕ) where
       go false h e = cc
 
 -- the place that the code looks at
-place_is : (c : tie.After-before2) → c.before2.result ≡ place_before c.before.before.before.args.k (cell c.before.before.before.args.b.now c.before.before.before.args.row 0)
+place_is : (c : tie.After-before-place) → c.before-place.result ≡ place_before c.before.before.before.args.k (cell c.before.before.before.args.b.now c.before.before.before.args.row 0)
 unfolding length_in
 place_is c =
-    let l = c.before.length-of.ensures in
-    c.before2.ensures (cell c.before.before.before.args.b.now c.before.before.before.args.row 0) (kept l.1 ∙ l.0)
+    let l = c.before.length_of.ensures in
+    c.before-place.ensures (cell c.before.before.before.args.b.now c.before.before.before.args.row 0) (kept l.1 ∙ l.0)
 
 standing-requires : tie.Need-standing-requires
 standing-requires c κs =
-    let s = c.before.before.before.before.before.before in
-    let h = placed s.args.k (cell s.args.b.now s.args.row 0) c.before.place.given.0.0 (sym (place_is c.before.before.before) ∙ c.before.place.given.1) in
+    let s = c.before.before.before.before in
+    let h = placed s.args.k (cell s.args.b.now s.args.row 0) c.in-At.i (sym (place_is c.before) ∙ c.in-At.is) in
     (s.requires.0.letters, omega (arith, h.0, h.1, s.requires.0.read, s.requires.1.1))
 
 -- the length that it reads is a number of two bytes
-small : (c : tie.After-length-of) → cell c.before.before.args.b.now c.before.before.args.row 0 < 65536
+small : (c : tie.After-length_of) → cell c.before.before.args.b.now c.before.before.args.row 0 < 65536
 unfolding length_in
 small c =
-    let l = c.length-of.ensures in
+    let l = c.length_of.ensures in
     omega (arith, l.1.small, number_is l.1 (cell c.before.before.args.b.now c.before.before.args.row 0) l.0)
 
-returns : tie.Need-returns
+returns : tie.Need-returns-in-At
 returns c =
-    let a = c.before.before.before.before.before.before.before.args in (
-      there a.b.now (standing_in a.b.now a.f a.side) a.k a.c a.row c.before.before.place.given.0.0 c.standing.result
-          (sym (place_is c.before.before.before.before) ∙ c.before.before.place.given.1) c.standing.ensures,
-      small c.before.before.before.before.before,
+    let a = c.before.before.before.before.before.args in (
+      there a.b.now (standing_in a.b.now a.f a.side) a.k a.c a.row c.before.in-At.i c.standing.result
+          (sym (place_is c.before.before) ∙ c.before.in-At.is) c.standing.ensures,
+      small c.before.before.before,
     )
 
-returns-2 : tie.Need-returns-2
+returns-2 : tie.Need-returns-in-Outside
 returns-2 c =
-    let a = c.before.before.before.before.before.args in
-    (nowhere a.b.now (standing_in a.b.now a.f a.side) a.k a.c a.row (sym (place_is c.before.before) ∙ c.enum_told.given.1), small c.before.before.before)
+    let a = c.before.before.before.before.args in
+    (nowhere a.b.now (standing_in a.b.now a.f a.side) a.k a.c a.row (sym (place_is c.before) ∙ c.in-Outside.is), small c.before.before)
 
-pub faces-spec : {M : Type 1} → statement M
-faces-spec =
+pub faces_spec : {M : Type 1} → statement M
+faces_spec =
     tie.close
     (tie.spec (λ c κs. search rules) (λ c κs. search rules) (λ c. search rules) standing-requires (λ c. search rules) returns returns-2)

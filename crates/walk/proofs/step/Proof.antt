@@ -20,15 +20,15 @@ module _ {b t : Word} {k d want start n : ℕ} {o : Walked} (m : Meets b t k d w
   none-met : o ≡ Nothing → Stepped b t k d want start 1
   none-met e = ended n (subst (Meets b t k d want start n) e m) refl
 
-edge-of-requires : tie.Need-edge-of-requires
-edge-of-requires c κs = meets-fits c.before.before.before.before.before.requires.1.0 c.before.before.before.walk.ensures c.before.met.given.1
+edge_of-requires : tie.Need-edge_of-requires
+edge_of-requires c κs = meets-fits c.before.before.before.requires.1.0 c.before.walk-search.ensures c.in-At.is
 
-returns : tie.Need-returns
+returns : tie.Need-returns-in-At
 returns c =
-    edge-taken c.before.before.before.before.walk.ensures c.before.before.met.given.0.0 c.before.before.met.given.1 c.Edge-of.result c.Edge-of.ensures.0
+    edge-taken c.before.before.walk-search.ensures c.before.in-At.u c.before.in-At.is c.edge_of.result c.edge_of.ensures.0
 
-returns-2 : tie.Need-returns-2
-returns-2 c = none-met c.before.before.walk.ensures c.enum_told.given.1
+returns-2 : tie.Need-returns-in-Nothing
+returns-2 c = none-met c.before.walk-search.ensures c.in-Nothing.is
 
 pub step_spec : {M : Type 1} → statement M
-step_spec = tie.close (tie.spec (λ c κs. search rules) (λ c. search rules) edge-of-requires (λ c. search rules) returns returns-2)
+step_spec = tie.close (tie.spec (λ c κs. search rules) (λ c. search rules) edge_of-requires (λ c. search rules) returns returns-2)

@@ -25,20 +25,20 @@ stepped {b} g h k row d q l a e s =
     good-step g l (e ∙ ap (λ (t : Word). get_or t k 0) (framed-standing h)) a q
     (subst₂ (λ (t : Word) (want : ℕ). Stepped b t k d want row q) (framed-right h) (framed-rule h d) s)
 
-standing-requires : tie.Need-standing-requires
+standing-requires : tie.Need-standing-d-requires
 standing-requires c κs =
     let s = c.before in
     let w = framed-within s.requires.1.0 s.requires.0.sized (s.args.k + 1) (omega arith) in
     (w.letters, omega (arith, w.read))
 
 -- the letter that stands there, and the one that must face it
-letter : (c : tie.After-of-letter) → is_letter c.before.standing.result ≡ true
+letter : (c : tie.After-of_letter) → is_letter c.before.standing-d.result ≡ true
 letter c =
     let s = c.before.before.before in
-    read-letter s.requires.0 s.args.k s.requires.1.1.1.0 (c.before.standing.ensures ∙ ap (λ (t : Word). get_or t s.args.k 0) (framed-standing s.requires.1.0))
+    read-letter s.requires.0 s.args.k s.requires.1.1.1.0 (c.before.standing-d.ensures ∙ ap (λ (t : Word). get_or t s.args.k 0) (framed-standing s.requires.1.0))
 
-wanted : (c : tie.After-of-letter) → c.of-letter.result ≡ partner_in c.before.before.before.args.f c.before.standing.result
-wanted c = c.of-letter.ensures ∙ c.before.before.before.requires.1.1.0 c.before.standing.result (letter c)
+wanted : (c : tie.After-of_letter) → c.of_letter.result ≡ partner_in c.before.before.before.args.f c.before.standing-d.result
+wanted c = c.of_letter.ensures ∙ c.before.before.before.requires.1.1.0 c.before.standing-d.result (letter c)
 
 step-requires : tie.Need-step-requires
 step-requires c κs =
@@ -49,8 +49,8 @@ returns : tie.Need-returns
 returns c =
     let s = c.before.before.before.before in
     let a = s.args in
-    let d = c.before.before.standing in
+    let d = c.before.before.standing-d in
     stepped s.requires.0 s.requires.1.0 a.k a.row d.result c.step.result s.requires.1.1.1.0 s.requires.1.1.1.1 d.ensures c.step.ensures
 
-pub next-spec : {M : Type 1} → statement M
-next-spec = tie.close (tie.spec standing-requires (λ c κs. search rules) step-requires returns)
+pub next_spec : {M : Type 1} → statement M
+next_spec = tie.close (tie.spec standing-requires (λ c κs. search rules) step-requires returns)
