@@ -6,7 +6,7 @@
 -- table that covers a record.
 use Prim.Native.Nat.{ℕ, zero, suc, ◌+◌, ◌-◌, ◌≤◌, ◌<◌}
 use native.Mathlib.Omega.{arith}
-use mathlib.Core.Path.{◌≡◌, refl, sym, ap, ◌∙◌}
+use mathlib.Core.Path.{◌≡◌, refl, sym, ap, ◌∙◌, subst}
 use mathlib.Core.Bool.{true}
 use mathlib.Core.Logic.{⊎_elim}
 use mathlib.Core.List.{List, [], ◌∷◌, ◌++◌, map}
@@ -49,15 +49,19 @@ module _ {link reach : ℕ → ℕ} where
   run-places (more l e a q) k m = ⊎_elim (λ i. omega (arith, run-falls a)) (λ i. omega (arith, run-places a k i)) (Memᴰ.cases_cons (rw q at m))
 
   -- the run of the link and one place more are the run of the row
-  run-longer : {d next p r : ℕ} {ps : List ℕ} → Run link reach d next p (link r) ps → 2 ≤ r → reach r ≡ reach (link r) + d
+  run-longer : {d next p v : ℕ} {ps : List ℕ} → Run link reach d next p v ps → (r : ℕ) → v ≡ link r → 2 ≤ r → reach r ≡ reach (link r) + d
       → Run link reach d next p r (ps ++ ((p + reach r - (reach next + d)) ∷ []))
-  run-longer {d} {next} {p} {r} {ps} (last l e n q) h k =
-      let z : p + reach r - (reach next + d) ≡ p + d = omega (arith, ap reach n) in
-      let a : Run link reach d next (p + d) (link r) ((p + d) ∷ []) = last l e n refl in
-      more {p = p} {ps = ps ++ ((p + reach r - (reach next + d)) ∷ [])} h k a (cc)
-  run-longer {d} {next} {p} {r} {ps} (more {qs = qs} l e a q) h k =
-      let z : p + d + reach (link r) - (reach next + d) ≡ p + reach r - (reach next + d) = omega arith in
-      more {p = p} {ps = ps ++ ((p + reach r - (reach next + d)) ∷ [])} h k (run-longer a l e) (cc)
+  run-longer {d} {next} {p} {v} {ps} (last l e n q) r i h k =
+      let z : p + reach r - (reach next + d) ≡ p + d = omega (arith, ap reach n, ap reach i) in
+      let a : Run link reach d next (p + d) v ((p + d) ∷ []) = last l e n refl in
+      let b : Run link reach d next (p + d) (link r) ((p + d) ∷ []) = subst (λ (u : ℕ). Run link reach d next (p + d) u ((p + d) ∷ [])) i a in
+      more {p = p} {ps = ps ++ ((p + reach r - (reach next + d)) ∷ [])} h k b (cc)
+  run-longer {d} {next} {p} {v} {ps} (more {qs = qs} l e a q) r i h k =
+      let z : p + d + reach v - (reach next + d) ≡ p + reach r - (reach next + d) = omega (arith, ap reach i) in
+      let b = run-longer a v refl l e in
+      let c : Run link reach d next (p + d) (link r) (qs ++ ((p + d + reach v - (reach next + d)) ∷ [])) =
+      subst (λ (u : ℕ). Run link reach d next (p + d) u (qs ++ ((p + d + reach v - (reach next + d)) ∷ []))) i b in
+      more {p = p} {ps = ps ++ ((p + reach r - (reach next + d)) ∷ [])} h k c (cc)
 
   -- ---- a choice that is kept
 
@@ -78,7 +82,7 @@ module _ {link reach : ℕ → ℕ} where
         record {
           difference = d;
           places = a.places ++ (q ∷ []);
-          run = run-longer (rw i at run) l (omega (arith, ap reach i));
+          run = run-longer run r i l (omega (arith, ap reach i));
           chosen = ap (λ (c : ℕ). better f c q) a.chosen ∙ sym (choice-snoc f p a.places q);
         }
 
