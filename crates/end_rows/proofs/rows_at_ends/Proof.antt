@@ -35,44 +35,44 @@ turn-next {b} {n} {m} {ends} {row} {k} e l t next h =
     go j m (yes p) = rw (p, get_or-set_same ends k next 0 (omega (arith, t.long))) h
     go j m (no p) = rw (get_or-set_other ends k j next 0 p) (t.each j (omega arith))
 
-abbrev invariant-loop : tie.invariant-loop
+abbrev invariant-loop : tie.invariant-loop-k
 invariant-loop b ends₀ f partners row₀ k₀ ends row k = Turn b f.n (length ends₀) ends row k
 
-abbrev decreases-loop : tie.decreases-loop
+abbrev decreases-loop : tie.decreases-loop-k
 decreases-loop b ends₀ f partners row₀ k₀ ends row k = f.n - k
 
-abbrev from-loop : tie.At-loop invariant-loop decreases-loop → tie.Start invariant-loop decreases-loop
+abbrev from-loop : tie.At-loop-k invariant-loop decreases-loop → tie.Start invariant-loop decreases-loop
 from-loop c = c.before.before.before.before.before
 
-loop-holds : tie.Need-loop-init invariant-loop decreases-loop
+loop-holds : tie.Need-loop-k-init invariant-loop decreases-loop
 loop-holds c =
     let s = c.before.before.before.before in
     record { read = omega arith; long = refl; here = holds-first s.requires.0; each = λ j m. absurd (omega arith) }
 
-next-requires : tie.Need-next-requires invariant-loop decreases-loop
+next-requires : tie.Need-next-row-requires invariant-loop decreases-loop
 next-requires c κs =
     let t = c.before.before.before in
-    let f = t.before.before.frame-of.ensures in
-    ((from-loop t).requires.0, (f, (t.before.of-letters.ensures, (omega (arith, f.size_is, c.before.if1.true), t.loop.invariant.here))))
+    let f = t.before.before.frame_of-f.ensures in
+    ((from-loop t).requires.0, (f, (t.before.of_letters-partners.ensures, (omega (arith, f.size_is, c.before.loop-k-test.true), t.loop-k.invariant.here))))
 
-cast_ends : tie.Need-overflow-cast-ends invariant-loop decreases-loop
-cast_ends c = omega (arith, used-small (from-loop c.before.before.before.before).pre.0 c.next.result c.next.ensures.used)
+cast_ends : tie.Need-overflow_cast-ends invariant-loop decreases-loop
+cast_ends c = omega (arith, used-small (from-loop c.before.before.before.before).requires.0 c.next-row.result c.next-row.ensures.used)
 
 -- there is a place for each letter
-room : (c : tie.After-next invariant-loop decreases-loop) → let t = c.before.before.before.before in t.before.before.frame-of.result.n ≤ length (from-loop t).args.ends.now
-room c = let t = c.before.before.before.before in omega (arith, t.before.before.frame-of.ensures.size_is, (from-loop t).requires.1)
+room : (c : tie.After-next-row invariant-loop decreases-loop) → let t = c.before.before.before.before in t.before.before.frame_of-f.result.n ≤ length (from-loop t).args.ends.now
+room c = let t = c.before.before.before.before in omega (arith, t.before.before.frame_of-f.ensures.size_is, (from-loop t).requires.1)
 
-loop-again : tie.Need-loop-preserved invariant-loop decreases-loop
-loop-again c = let t = c.before.before.before.before in turn-next (room c) c.before.before.if1.true t.loop.invariant c.next.result c.next.ensures
+loop-again : tie.Need-loop-k-preserved invariant-loop decreases-loop
+loop-again c = let t = c.before.before.before.before in turn-next (room c) c.before.before.loop-k-test.true t.loop-k.invariant c.next-row.result c.next-row.ensures
 
 returns : tie.Need-returns invariant-loop decreases-loop
 returns c =
     let t = c.before.before in
-    let n = t.before.before.frame-of.ensures.size_is in
-    record { long = omega (arith, t.loop.invariant.long, (from-loop t).requires.1); each = λ k l. t.loop.invariant.each k (omega (arith, n, c.if1.false)) }
+    let n = t.before.before.frame_of-f.ensures.size_is in
+    record { long = omega (arith, t.loop-k.invariant.long, (from-loop t).requires.1); each = λ k l. t.loop-k.invariant.each k (omega (arith, n, c.loop-k-test.false)) }
 
-pub rows-at-ends-spec : {M : Type 1} → statement M
-rows-at-ends-spec =
+pub rows_at_ends_spec : {M : Type 1} → statement M
+rows_at_ends_spec =
     tie.close
     (tie.spec
     invariant-loop
@@ -83,9 +83,9 @@ rows-at-ends-spec =
     next-requires
     cast_ends
     (λ c. search rules)
-    (λ c. omega (arith, room c, c.before.before.before.before.loop.invariant.long, c.before.before.if1.true))
+    (λ c. omega (arith, room c, c.before.before.before.before.loop-k.invariant.long, c.before.before.loop-k-test.true))
     (λ c. omega arith)
     (λ c. omega arith)
     loop-again
-    (λ c. c.before.before.loop.invariant.long)
+    (λ c. c.before.before.loop-k.invariant.long)
     returns)

@@ -13,6 +13,7 @@ use Rattle.store.specs.Layout.{link_in}
 use Rattle.transitions.proofs.Rows.{used-fits, row_below, link-below}
 use Rattle.frequencies.specs.Counts.{handed, handed_on}
 use Rattle.frequencies.proofs.hand_on.Statement.{statement}
+use Rattle.frequencies.proofs.hand_on.Lts.{then-link-gt-EMPTY, else-link-gt-EMPTY}
 use Rattle.frequencies.proofs.hand_on.Tie as tie
 
 -- a root hands nothing on
@@ -20,22 +21,22 @@ root-keeps : (b counts : Word) (r : ℕ) → r < 2 → (0 ≡ handed counts r) �
 root-keeps b counts r l = rw (lt-ltb r 2 l) (refl, refl)
 
 -- the entry, from behind the reading of the link
-abbrev entry : tie.After-link-of → tie.Start
+abbrev entry : tie.After-link_of-link → tie.Start
 entry c = c.before.before.before.before.before
 
-linked : (c : tie.After-link-of) → c.link-of.result ≡ link_in (entry c).args.b.now (entry c).args.row
-linked c = c.link-of.ensures.0
+linked : (c : tie.After-link_of-link) → c.link_of-link.result ≡ link_in (entry c).args.b.now (entry c).args.row
+linked c = c.link_of-link.ensures.0
 
-returns : tie.Need-returns
-returns c = let s = c.before.before.before in root-keeps s.args.b.now s.args.counts.now s.args.row (omega (arith, c.if1.true))
+returns : tie.Need-returns-then-row-le-EMPTY
+returns c = let s = c.before.before.before in root-keeps s.args.b.now s.args.counts.now s.args.row (omega (arith, c.if-row-le-EMPTY.true))
 
 -- the row has a number
-row_inside : (c : tie.Else1) → c.before.before.before.args.row < length c.before.before.before.args.counts.now
+row_inside : (c : tie.Else-row-le-EMPTY) → c.before.before.before.args.row < length c.before.before.before.args.counts.now
 row_inside c = let s = c.before.before.before in omega (arith, row_below s.requires.0 s.args.row s.requires.1.used, s.requires.1.long)
 
 -- and so has its link
-link-inside : (c : tie.After-link-of) → c.link-of.result < length (entry c).args.counts.now
-link-inside c = let s = entry c in omega (arith, link-below s.pre.0 s.args.row s.pre.1.used (linked c), s.pre.1.long)
+link-inside : (c : tie.After-link_of-link) → c.link_of-link.result < length (entry c).args.counts.now
+link-inside c = let s = entry c in omega (arith, link-below s.requires.0 s.args.row s.requires.1.used (linked c), s.requires.1.long)
 
 -- a row's number is added to its link's, or the link is a root's
 abbrev Raised : Word → ℕ → ℕ → Word → Type 0
@@ -56,28 +57,32 @@ handed-on b counts r q m e new o = rw (le-ltb r 2 m, ← e) (refl, ⊎_elim adde
 as_long : (counts : Word) (r q : ℕ) (new : Word) → Raised counts r q new → length new ≡ length counts
 as_long counts r q new o = ⊎_elim (λ w. ap length w.1 ∙ length-set counts q (get_or counts q 0 + get_or counts r 0)) (λ w. ap length w.1) o
 
-raises : (c : tie.Joined2) → let s = entry c.before in Raised s.args.counts.now s.args.row c.before.link-of.result c.if2.counts
-raises c = ⊎_elim (λ w. inl (w.0.taken, w.2)) (λ w. inr (w.0.left, w.1)) c.if2.branch
+raises : (c : tie.Joined-link-gt-EMPTY) → let s = entry c.before in Raised s.args.counts.now s.args.row c.before.link_of-link.result c.if-link-gt-EMPTY.counts
+raises c =
+    elim c.if-link-gt-EMPTY.branch [
+      then-link-gt-EMPTY w ↦ inl (w.if-link-gt-EMPTY.true, w.counts-is)
+    | else-link-gt-EMPTY w ↦ inr (w.if-link-gt-EMPTY.false, w.counts-is)
+    ]
 
-returns-2 : tie.Need-returns-2
+returns-2 : tie.Need-returns
 returns-2 c =
     let read = c.before in
     let s = entry read in
-    handed-on s.args.b.now s.args.counts.now s.args.row read.link-of.result (omega (arith, read.before.before.if1.false)) (linked read) c.if2.counts (raises c)
+    handed-on s.args.b.now s.args.counts.now s.args.row read.link_of-link.result (omega (arith, read.before.before.if-row-le-EMPTY.false)) (linked read) c.if-link-gt-EMPTY.counts (raises c)
 
-add-counts : tie.Need-overflow-add-counts
+add-counts : tie.Need-overflow_add-counts
 add-counts c =
     let read = c.before.before in
     let s = entry read in
     let e = linked read in
     omega (
       arith,
-      s.pre.1.few (omega (arith, read.before.before.if1.false)) (omega (arith, e, c.before.if2.true)),
+      s.requires.1.few (omega (arith, read.before.before.if-row-le-EMPTY.false)) (omega (arith, e, c.before.if-link-gt-EMPTY.true)),
       ap (λ (r : ℕ). get_or s.args.counts.now r 0) e,
     )
 
-same_length : tie.Need-same-length
-same_length c = let s = entry c.before in as_long s.args.counts.now s.args.row c.before.link-of.result c.if2.counts (raises c)
+same_length : tie.Need-shape_of-counts
+same_length c = let s = entry c.before in as_long s.args.counts.now s.args.row c.before.link_of-link.result c.if-link-gt-EMPTY.counts (raises c)
 
 pub hand_on_spec : {M : Type 1} → statement M
 hand_on_spec =
@@ -91,6 +96,6 @@ hand_on_spec =
     (λ c. link-inside c.before.before)
     add-counts
     (λ c. link-inside c.before.before)
-    (λ c. let s = c.before.before.before.before.before.before in omega (arith, s.requires.1.small (omega (arith, c.before.before.before.if1.false))))
+    (λ c. let s = c.before.before.before.before.before.before in omega (arith, s.requires.1.small (omega (arith, c.before.before.before.if-row-le-EMPTY.false))))
     same_length
     returns-2)

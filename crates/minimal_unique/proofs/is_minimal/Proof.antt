@@ -13,30 +13,30 @@ use Rattle.minimal_unique.proofs.is_minimal.Tie as tie
 marked : (s : tie.Start) → s.args.row < length s.args.marks.now
 marked s = omega (arith, row_below s.requires.0 s.args.row s.requires.1.1, s.requires.1.0.long)
 
-returns : tie.Need-returns
-returns c = let s = c.before.before.before.before in sym (not-once s.requires.0 s.requires.1.0 s.args.row s.requires.1.1 c.if1.true)
+returns : tie.Need-returns-then-marks-row-ne1
+returns c = let s = c.before.before.before.before in sym (not-once s.requires.0 s.requires.1.0 s.args.row s.requires.1.1 c.if-marks-row-ne1.true)
 
 -- the entry, from behind the reading of the inner row
-abbrev from_inner : tie.After-inner-of → tie.Start
+abbrev from_inner : tie.After-inner_of → tie.Start
 from_inner c = c.before.before.before.before.before
 
 -- the inner row has a mark too
-inner-marked : tie.Need-shared-slice-read-result
+inner-marked : tie.Need-bounds-marks-inner_of
 inner-marked c =
     let read = c.before in
     let s = from_inner read in
-    let u = ((covers s.pre.0).inner-is s.args.row s.pre.1.1).0 in
-    omega (arith, read.inner-of.ensures.0, row_below s.pre.0 _ u, s.pre.1.0.long)
+    let u = ((covers s.requires.0).inner-is s.args.row s.requires.1.1).0 in
+    omega (arith, read.inner_of.ensures.0, row_below s.requires.0 _ u, s.requires.1.0.long)
 
-returns-2 : tie.Need-returns-2
+returns-2 : tie.Need-returns
 returns-2 c =
     let read = c.before in
     let s = from_inner read in
-    ap (λ n. eqb (get_or s.args.marks.now n 0) 2) read.inner-of.ensures.0
-    ∙ sym (once s.pre.0 s.pre.1.0 s.args.row s.pre.1.1 read.before.if1.false)
+    ap (λ n. eqb (get_or s.args.marks.now n 0) 2) read.inner_of.ensures.0
+    ∙ sym (once s.requires.0 s.requires.1.0 s.args.row s.requires.1.1 read.before.if-marks-row-ne1.false)
 
-pub is-minimal-spec : {M : Type 1} → statement M
-is-minimal-spec =
+pub is_minimal_spec : {M : Type 1} → statement M
+is_minimal_spec =
     tie.close
     (tie.spec
     (λ c. marked c.before.before.before)

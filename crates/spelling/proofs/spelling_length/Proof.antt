@@ -12,20 +12,20 @@ use Rattle.spelling.proofs.Spellings.{spells-root, spells-length}
 use Rattle.spelling.proofs.spelling_length.Statement.{statement}
 use Rattle.spelling.proofs.spelling_length.Tie as tie
 
-returns : tie.Need-returns
-returns c = let s = c.before.before in sym (ap length (spells-root s.requires.0 s.args.r s.requires.1 (omega (arith, c.if1.true))))
+returns : tie.Need-returns-then-r-eq-IMAGINARY
+returns c = let s = c.before.before in sym (ap length (spells-root s.requires.0 s.args.r s.requires.1 (omega (arith, c.if-r-eq-IMAGINARY.true))))
 
 -- the stored number
-stored : (c : tie.After-to-stored)
-    → c.to-stored.result ≡ suc (length (spelling_of (node_in c.before.before.before.before.args.b.now c.before.before.before.before.args.r)))
+stored : (c : tie.After-to_stored)
+    → c.to_stored.result ≡ suc (length (spelling_of (node_in c.before.before.before.before.args.b.now c.before.before.before.before.args.r)))
 stored c =
     let s = c.before.before.before.before in
-    let l = c.before.length-of.ensures in
-    c.to-stored.ensures (suc (length (spelling_of (node_in s.args.b.now s.args.r))))
-    (kept l.1 ∙ l.0 ∙ spells-length s.requires.0 s.args.r s.requires.1 c.before.before.if1.false)
+    let l = c.before.length_of.ensures in
+    c.to_stored.ensures (suc (length (spelling_of (node_in s.args.b.now s.args.r))))
+    (kept l.1 ∙ l.0 ∙ spells-length s.requires.0 s.args.r s.requires.1 c.before.before.if-r-eq-IMAGINARY.false)
 
-pub spelling-length-spec : {M : Type 1} → statement M
-spelling-length-spec =
+pub spelling_length_spec : {M : Type 1} → statement M
+spelling_length_spec =
     tie.close
     (tie.spec
     returns

@@ -24,37 +24,37 @@ record Turn (b w : Word) (n : ℕ) (marks : Word) (row total k : ℕ) : Type 0 w
   marked : Handed b (ending_with w) k marks
   counted : total ≡ frequency w (take k (letters_in b))
 
-abbrev invariant-loop : tie.invariant-loop
+abbrev invariant-loop : tie.invariant-loop-k
 invariant-loop b wanted marks₀ f partners row₀ total₀ k₀ marks row total k = Turn b (spelling_of (node_in b wanted)) f.n marks row total k
 
-abbrev decreases-loop : tie.decreases-loop
+abbrev decreases-loop : tie.decreases-loop-k
 decreases-loop b wanted marks₀ f partners row₀ total₀ k₀ marks row total k = f.n - k
 
 -- the entry, from the loop; the loop, from behind the reading of a letter; and that place, from behind the mark
-abbrev from-loop : tie.At-loop invariant-loop decreases-loop → tie.Start invariant-loop decreases-loop
+abbrev from-loop : tie.At-loop-k invariant-loop decreases-loop → tie.Start invariant-loop decreases-loop
 from-loop c = c.before.before.before.before.before
 
-abbrev from_next : tie.After-next invariant-loop decreases-loop → tie.At-loop invariant-loop decreases-loop
+abbrev from_next : tie.After-next-row invariant-loop decreases-loop → tie.At-loop-k invariant-loop decreases-loop
 from_next c = c.before.before.before.before
 
-abbrev from-mark : tie.After-mark invariant-loop decreases-loop → tie.After-next invariant-loop decreases-loop
+abbrev from-mark : tie.After-mark-total invariant-loop decreases-loop → tie.After-next-row invariant-loop decreases-loop
 from-mark c = c.before.before
 
 -- a letter is left to read
-more : (c : tie.After-next invariant-loop decreases-loop) → let t = from_next c in t.loop.k < size_in (from-loop t).args.b.now
-more c = omega (arith, c.before.before.if1.true, (from_next c).before.before.frame-of.ensures.size_is)
+more : (c : tie.After-next-row invariant-loop decreases-loop) → let t = from_next c in t.loop-k.k < size_in (from-loop t).args.b.now
+more c = omega (arith, c.before.before.loop-k-test.true, (from_next c).before.before.frame_of-f.ensures.size_is)
 
 -- the total with the mark
-next-total : (c : tie.After-mark invariant-loop decreases-loop) → let t = from_next (from-mark c) in let b = (from-loop t).args.b.now in
-    t.loop.total + c.mark.result ≡ frequency (spelling_of (node_in b (from-loop t).args.wanted)) (take (t.loop.k + 1) (letters_in b))
+next-total : (c : tie.After-mark-total invariant-loop decreases-loop) → let t = from_next (from-mark c) in let b = (from-loop t).args.b.now in
+    t.loop-k.total + c.mark-total.result ≡ frequency (spelling_of (node_in b (from-loop t).args.wanted)) (take (t.loop-k.k + 1) (letters_in b))
 next-total c =
     let read = from-mark c in
     let t = from_next read in
-    let p = (from-loop t).pre in
-    let marks = c.mark.ensures t.loop.k (more read) read.next.ensures t.loop.inv.marked in
-    omega (arith, t.loop.inv.counted, marks.1, frequency-next p.0 p.1.0.0 p.1.0.1 t.loop.k (more read))
+    let p = (from-loop t).requires in
+    let marks = c.mark-total.ensures t.loop-k.k (more read) read.next-row.ensures t.loop-k.invariant.marked in
+    omega (arith, t.loop-k.invariant.counted, marks.1, frequency-next p.0 p.1.0.0 p.1.0.1 t.loop-k.k (more read))
 
-loop-holds : tie.Need-loop-init invariant-loop decreases-loop
+loop-holds : tie.Need-loop-k-init invariant-loop decreases-loop
 loop-holds c =
     let s = c.before.before.before.before in
     let p = s.requires in
@@ -65,52 +65,52 @@ loop-holds c =
       counted = sym (frequency-first p.0 p.1.0.0 p.1.0.1);
     }
 
-next-requires : tie.Need-next-requires invariant-loop decreases-loop
+next-requires : tie.Need-next-row-requires invariant-loop decreases-loop
 next-requires c κs =
     let t = c.before.before.before in
-    let f = t.before.before.frame-of.ensures in
-    ((from-loop t).requires.0, (f, (t.before.of-letters.ensures, (omega (arith, f.size_is, c.before.if1.true), t.loop.invariant.here))))
+    let f = t.before.before.frame_of-f.ensures in
+    ((from-loop t).requires.0, (f, (t.before.of_letters-partners.ensures, (omega (arith, f.size_is, c.before.loop-k-test.true), t.loop-k.invariant.here))))
 
-mark-requires : tie.Need-mark-requires invariant-loop decreases-loop
+mark-requires : tie.Need-mark-total-requires invariant-loop decreases-loop
 mark-requires c κs =
     let read = c.before in
     let t = from_next read in
-    let p = (from-loop t).pre in
-    (p.0, (p.1.0, (read.next.ensures.used, t.loop.inv.marked.long)))
+    let p = (from-loop t).requires in
+    (p.0, (p.1.0, (read.next-row.ensures.used, t.loop-k.invariant.marked.long)))
 
-add_total : tie.Need-overflow-add-total invariant-loop decreases-loop
+add_total : tie.Need-overflow_add-total invariant-loop decreases-loop
 add_total c =
     let marked = c.before.before in
     let t = from_next (from-mark marked) in
-    let p = (from-loop t).pre in
-    let small = frequency-small p.0 p.1.0.0 p.1.0.1 (t.loop.k + 1) in
+    let p = (from-loop t).requires in
+    let small = frequency-small p.0 p.1.0.0 p.1.0.1 (t.loop-k.k + 1) in
     omega (arith, next-total marked, small, more (from-mark marked), size-most p.0)
 
-loop-again : tie.Need-loop-preserved invariant-loop decreases-loop
+loop-again : tie.Need-loop-k-preserved invariant-loop decreases-loop
 loop-again c =
     let marked = c.before.before in
     let read = from-mark marked in
     let t = from_next read in
     record {
-      read = omega (arith, read.before.before.if1.taken);
-      here = read.next.ensures;
-      marked = (marked.mark.ensures t.loop.k (more read) read.next.ensures t.loop.inv.marked).0;
+      read = omega (arith, read.before.before.loop-k-test.true);
+      here = read.next-row.ensures;
+      marked = (marked.mark-total.ensures t.loop-k.k (more read) read.next-row.ensures t.loop-k.invariant.marked).0;
       counted = next-total marked;
     }
 
-same_length : tie.Need-same-length invariant-loop decreases-loop
-same_length c = let t = c.before.before in omega (arith, t.loop.invariant.marked.long, ap length (from-loop t).requires.1.1, length-replicate {A = ℕ} 1026 0)
+same_length : tie.Need-shape_of-marks invariant-loop decreases-loop
+same_length c = let t = c.before.before in omega (arith, t.loop-k.invariant.marked.long, ap length (from-loop t).requires.1.1, length-replicate {A = ℕ} 1026 0)
 
 returns : tie.Need-returns invariant-loop decreases-loop
 returns c =
     let t = c.before.before in
     let s = from-loop t in
-    let n = t.before.before.frame-of.ensures.size_is in
-    let whole = read_whole s.pre.0 t.loop.k (omega (arith, n, t.loop.invariant.read, c.if1.false)) in
-    t.loop.invariant.counted ∙ ap (frequency (spelling_of (node_in s.args.b.now s.args.wanted))) whole
+    let n = t.before.before.frame_of-f.ensures.size_is in
+    let whole = read_whole s.requires.0 t.loop-k.k (omega (arith, n, t.loop-k.invariant.read, c.loop-k-test.false)) in
+    t.loop-k.invariant.counted ∙ ap (frequency (spelling_of (node_in s.args.b.now s.args.wanted))) whole
 
-pub count-ends-spec : {M : Type 1} → statement M
-count-ends-spec =
+pub count_ends_spec : {M : Type 1} → statement M
+count_ends_spec =
     tie.close
     (tie.spec
     invariant-loop

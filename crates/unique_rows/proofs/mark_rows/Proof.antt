@@ -32,23 +32,23 @@ record Turn (b : Word) (n m : ℕ) (firsts marks : Word) (row k : ℕ) : Type 0 
   marked : Marks b k marks
   each : (j : ℕ) → j < k → At b j (get_or firsts j 0)
 
-abbrev invariant-loop : tie.invariant-loop
+abbrev invariant-loop : tie.invariant-loop-k
 invariant-loop b firsts₀ marks₀ f partners row₀ k₀ firsts marks row k = Turn b f.n (length firsts₀) firsts marks row k
 
-abbrev decreases-loop : tie.decreases-loop
+abbrev decreases-loop : tie.decreases-loop-k
 decreases-loop b firsts₀ marks₀ f partners row₀ k₀ firsts marks row k = f.n - k
 
 -- the entry, from the loop; the loop, from behind the reading of a letter; and that place, from behind the mark
-abbrev from-loop : tie.At-loop invariant-loop decreases-loop → tie.Start invariant-loop decreases-loop
+abbrev from-loop : tie.At-loop-k invariant-loop decreases-loop → tie.Start invariant-loop decreases-loop
 from-loop c = c.before.before.before.before.before.before
 
-abbrev from_next : tie.After-next invariant-loop decreases-loop → tie.At-loop invariant-loop decreases-loop
+abbrev from_next : tie.After-next-row invariant-loop decreases-loop → tie.At-loop-k invariant-loop decreases-loop
 from_next c = c.before.before.before.before
 
-abbrev from-meet : tie.After-meet invariant-loop decreases-loop → tie.After-next invariant-loop decreases-loop
+abbrev from-meet : tie.After-meet invariant-loop decreases-loop → tie.After-next-row invariant-loop decreases-loop
 from-meet c = c.before.before
 
-loop-holds : tie.Need-loop-init invariant-loop decreases-loop
+loop-holds : tie.Need-loop-k-init invariant-loop decreases-loop
 loop-holds c =
     let s = c.before.before.before.before.before in
     record {
@@ -60,11 +60,11 @@ loop-holds c =
     }
 
 -- a letter is left to read, and there is a place for it
-more : (c : tie.After-next invariant-loop decreases-loop) → let t = from_next c in t.loop.k < size_in (from-loop t).args.b.now
-more c = omega (arith, c.before.before.if1.true, (from_next c).before.before.frame-of.ensures.size_is)
+more : (c : tie.After-next-row invariant-loop decreases-loop) → let t = from_next c in t.loop-k.k < size_in (from-loop t).args.b.now
+more c = omega (arith, c.before.before.loop-k-test.true, (from_next c).before.before.frame_of-f.ensures.size_is)
 
-room : (c : tie.After-next invariant-loop decreases-loop) → let t = from_next c in t.loop.k < length t.loop.firsts
-room c = let t = from_next c in omega (arith, more c, t.loop.inv.long, (from-loop t).pre.1.0)
+room : (c : tie.After-next-row invariant-loop decreases-loop) → let t = from_next c in t.loop-k.k < length t.loop-k.firsts
+room c = let t = from_next c in omega (arith, more c, t.loop-k.invariant.long, (from-loop t).requires.1.0)
 
 -- one letter more
 turn-next : {b : Word} {n m : ℕ} {firsts marks : Word} {row k : ℕ} → Turn b n m firsts marks row k → k < n → k < length firsts
@@ -76,66 +76,66 @@ turn-next {b} {firsts} {k} t l r {first} h a f =
     go j m (yes p) = rw (p, get_or-set_same firsts k first 0 r) f
     go j m (no p) = rw (get_or-set_other firsts k j first 0 p) (t.each j (omega arith))
 
-next-requires : tie.Need-next-requires invariant-loop decreases-loop
+next-requires : tie.Need-next-row-requires invariant-loop decreases-loop
 next-requires c κs =
     let t = c.before.before.before in
-    let f = t.before.before.frame-of.ensures in
-    ((from-loop t).requires.0, (f, (t.before.of-letters.ensures, (omega (arith, f.size_is, c.before.if1.true), t.loop.invariant.here))))
+    let f = t.before.before.frame_of-f.ensures in
+    ((from-loop t).requires.0, (f, (t.before.of_letters-partners.ensures, (omega (arith, f.size_is, c.before.loop-k-test.true), t.loop-k.invariant.here))))
 
 meet-requires : tie.Need-meet-requires invariant-loop decreases-loop
 meet-requires c κs =
     let read = c.before in
     let t = from_next read in
-    ((from-loop t).pre.0, (read.next.ensures.used, t.loop.inv.marked.long))
+    ((from-loop t).requires.0, (read.next-row.ensures.used, t.loop-k.invariant.marked.long))
 
 -- the row met is a row in use, or the imaginary one
-first-met : (c : tie.After-meet invariant-loop decreases-loop) → let t = from_next (from-meet c) in At (from-loop t).args.b.now t.loop.k c.meet.result
+first-met : (c : tie.After-meet invariant-loop decreases-loop) → let t = from_next (from-meet c) in At (from-loop t).args.b.now t.loop-k.k c.meet.result
 first-met c =
     let read = from-meet c in
     let t = from_next read in
-    let m = c.meet.ensures t.loop.k (more read) read.next.ensures t.loop.inv.marked in
-    record { new = λ e. subst (λ (r : ℕ). Holds (from-loop t).args.b.now (t.loop.k + 1) r) (sym (m.1 e)) read.next.ensures; old = m.2 }
+    let m = c.meet.ensures t.loop-k.k (more read) read.next-row.ensures t.loop-k.invariant.marked in
+    record { new = λ e. subst (λ (r : ℕ). Holds (from-loop t).args.b.now (t.loop-k.k + 1) r) (sym (m.1 e)) read.next-row.ensures; old = m.2 }
 
 first_small : (c : tie.After-meet invariant-loop decreases-loop) → c.meet.result < 65536
-first_small c = go (new_at b t.loop.k) refl
+first_small c = go (new_at b t.loop-k.k) refl
   where
-    t : tie.At-loop invariant-loop decreases-loop
+    t : tie.At-loop-k invariant-loop decreases-loop
     t = from_next (from-meet c)
 
     b : Word
     b = (from-loop t).args.b.now
 
-    go : (x : Bool) → new_at b t.loop.k ≡ x → c.meet.result < 65536
-    go true e = omega (arith, used-small (from-loop t).pre.0 c.meet.result ((first-met c).new e).used)
+    go : (x : Bool) → new_at b t.loop-k.k ≡ x → c.meet.result < 65536
+    go true e = omega (arith, used-small (from-loop t).requires.0 c.meet.result ((first-met c).new e).used)
     go false e = omega (arith, (first-met c).old e)
 
-loop-again : tie.Need-loop-preserved invariant-loop decreases-loop
+loop-again : tie.Need-loop-k-preserved invariant-loop decreases-loop
 loop-again c =
     let m = c.before.before in
     let read = from-meet m in
     let t = from_next read in
-    turn-next t.loop.inv read.before.before.if1.taken (room read) read.next.ensures
-    (m.meet.ensures t.loop.k (more read) read.next.ensures t.loop.inv.marked).0 (first-met m)
+    turn-next t.loop-k.invariant read.before.before.loop-k-test.true (room read) read.next-row.ensures
+    (m.meet.ensures t.loop-k.k (more read) read.next-row.ensures t.loop-k.invariant.marked).0 (first-met m)
 
-same-length-2 : tie.Need-same-length-2 invariant-loop decreases-loop
-same-length-2 c = let t = c.before.before in omega (arith, t.loop.invariant.marked.long, ap length (from-loop t).requires.1.1, length-replicate {A = ℕ} 1026 0)
+same_length-2 : tie.Need-shape_of-marks invariant-loop decreases-loop
+same_length-2 c = let t = c.before.before in omega (arith, t.loop-k.invariant.marked.long, ap length (from-loop t).requires.1.1, length-replicate {A = ℕ} 1026 0)
 
 returns : tie.Need-returns invariant-loop decreases-loop
 returns c =
     let t = c.before.before in
-    let inv = t.loop.invariant in
-    let n = t.before.before.frame-of.ensures.size_is in
-    let all : t.loop.k ≡ size_in (from-loop t).args.b.now = omega (arith, n, inv.read, c.if1.false) in (
+    let inv = t.loop-k.invariant in
+    let n = t.before.before.frame_of-f.ensures.size_is in
+    let all : t.loop-k.k ≡ size_in (from-loop t).args.b.now = omega (arith, n, inv.read, c.loop-k-test.false) in (
       record {
         long = omega (arith, inv.long, (from-loop t).requires.1.0);
         new = λ k l. (inv.each k (omega (arith, all))).new;
         old = λ k l. (inv.each k (omega (arith, all))).old;
       },
-      subst (λ (k : ℕ). Marks (from-loop t).args.b.now k t.loop.marks) all inv.marked,
+      subst (λ (k : ℕ). Marks (from-loop t).args.b.now k t.loop-k.marks) all inv.marked,
     )
 
-pub mark-rows-spec : {M : Type 1} → statement M
-mark-rows-spec =
+pub mark_rows_spec : {M : Type 1} → statement M
+mark_rows_spec =
     tie.close
     (tie.spec
     invariant-loop
@@ -153,6 +153,6 @@ mark-rows-spec =
     (λ c. omega arith)
     (λ c. omega arith)
     loop-again
-    (λ c. c.before.before.loop.invariant.long)
-    same-length-2
+    (λ c. c.before.before.loop-k.invariant.long)
+    same_length-2
     returns)
