@@ -4,13 +4,13 @@ use mathlib.Core.Bool.{Bool, true, false, not, true≢false}
 use Rattle.audit_fixed.specs.Decides.{Decides}
 
 -- the code goes on
-pub holds : (P : Type 0) (t : Bool) → Decides t P → not t ≡ false → P
+pub holds : (P : Type 0) (t : Bool) → Decides t P → t ≡ true → P
 holds P true d e = d
-holds P false d e = absurd (true≢false e)
+holds P false d e = absurd (true≢false (sym e))
 
 -- the code stops
-pub fails : (P : Type 0) (t : Bool) → Decides t P → not t ≡ true → P → ⊥
-fails P true d e = absurd (true≢false (sym e))
+pub fails : (P : Type 0) (t : Bool) → Decides t P → t ≡ false → P → ⊥
+fails P true d e = absurd (true≢false e)
 fails P false d e = d
 
 -- a test of one proposition is a test of another that holds together with it
