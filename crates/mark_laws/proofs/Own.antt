@@ -90,6 +90,7 @@ module _ (name : Word) (h : is_identifier name ≡ true) (σ : ℕ → ℕ) (s :
       go false e ih = names-not σ name s p (own_line name s q) (map (own_line name s) ps) (named_here ∙ e) ∙ ih ∙ sym (in_list false e)
 
   own-each : (ps : List Word) → Repeats σ s ps → (l : Line) → Memᴰ l (map (own_line name s) ps) → is_naming σ name s l ≡ true
+  own-each [] k l m = elim m [ ]
   own-each (q ∷ ps) k l (Memᴰ.head e) =
       subst (λ (x : Line). is_naming σ name s x ≡ true) (sym e) (own-naming q (k q (member-first q ps)))
   own-each (q ∷ ps) k l (Memᴰ.tail m) = own-each ps (λ r n. k r (member-later r q ps n)) l m

@@ -47,15 +47,17 @@ clear-cons x w g h b (Memᴰ.tail m) f = h b m f
 -- digits, and the bytes of an identifier
 digits-clear : (w : Word) (c : ℕ) → all_digits w ≡ true → c < 48 → Clear c w
 unfolding all_digits
-digits-clear w c p h b (Memᴰ.head {x = x} {xs = v} e) f =
+digits-clear [] c p h b m f = elim m [ ]
+digits-clear (x ∷ v) c p h b (Memᴰ.head e) f =
     omega (arith, leb-true 48 x (both_true (leb 48 x) (leb x 57) (both_true (leb 48 x && leb x 57) (all_digits v) p).0).0)
-digits-clear w c p h b (Memᴰ.tail {x = x} {xs = v} m) f =
+digits-clear (x ∷ v) c p h b (Memᴰ.tail m) f =
     digits-clear v c (both_true (leb 48 x && leb x 57) (all_digits v) p).1 h b m f
 
 name-bytes : (w : Word) → all_identifier_bytes w ≡ true → (b : ℕ) → Memᴰ b w → is_identifier_byte b ≡ true
 unfolding all_identifier_bytes
-name-bytes w h b (Memᴰ.head {x = x} {xs = v} e) = rw e (both_true (is_identifier_byte x) (all_identifier_bytes v) h).0
-name-bytes w h b (Memᴰ.tail {x = x} {xs = v} m) =
+name-bytes [] h b m = elim m [ ]
+name-bytes (x ∷ v) h b (Memᴰ.head e) = rw e (both_true (is_identifier_byte x) (all_identifier_bytes v) h).0
+name-bytes (x ∷ v) h b (Memᴰ.tail m) =
     name-bytes v (both_true (is_identifier_byte x) (all_identifier_bytes v) h).1 b m
 
 name-clear : (name : Word) (c : ℕ) → is_identifier name ≡ true → is_identifier_byte c ≡ false → Clear c name

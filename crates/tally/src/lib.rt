@@ -15,15 +15,15 @@ pub struct Tally {
     pub missing: u64,
 }
 
-// Replaces the four counts of a tally where it is kept. Proved by hand.
+// Replaces the four counts of a tally where it is kept.
 pub fn replace(tally: &mut Tally, counts: Tally)
     ensures { tally.new ≡ counts }
 {
     *tally = counts;
 }
 
-// The same with plain parameters: the tally that was, with its counts replaced. Proved by hand too, since it
-// lends a local; its callers have no reference to a struct.
+// The same with plain parameters: the tally that was, with its counts replaced. It lends a local; its
+// callers have no reference to a struct.
 pub fn replaced(was: Tally, counts: Tally) -> Tally
     ensures { result ≡ counts }
 {

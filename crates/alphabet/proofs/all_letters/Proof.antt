@@ -13,10 +13,10 @@ use Rattle.palindromes.proofs.Letters.{letters-append}
 use Rattle.alphabet.proofs.all_letters.Statement.{statement}
 use Rattle.alphabet.proofs.all_letters.Tie as tie
 
-abbrev invariant-loop : tie.invariant-loop
+abbrev invariant-loop : tie.invariant-loop-i
 invariant-loop piece all₀ i₀ all i = all ≡ all_letters (take i piece)
 
-abbrev decreases-loop : tie.decreases-loop
+abbrev decreases-loop : tie.decreases-loop-i
 decreases-loop piece all₀ i₀ all i = length piece - i
 
 -- one byte more
@@ -26,17 +26,17 @@ passes p i l =
     let x = get_or p i 0 in
     ap (λ (n : ℕ). all_letters (take n p)) (add-one i) ∙ ap all_letters (take-suc p i 0 l) ∙ letters-append (take i p) (x ∷ []) ∙ ap (λ (t : Bool). all_letters (take i p) && t) (and-true (is_letter x))
 
-loop-again : tie.Need-loop-preserved invariant-loop decreases-loop
+loop-again : tie.Need-loop-i-preserved invariant-loop decreases-loop
 loop-again c =
     let l = c.before.before in
-    cc (l.before.loop.invariant, c.is-letter.ensures, passes l.before.before.before.args.piece.now l.before.loop.i l.loop-test.true)
+    cc (l.before.loop-i.invariant, c.is_letter-all.ensures, passes l.before.before.before.args.piece.now l.before.loop-i.i l.loop-i-test.true)
 
 returns : tie.Need-returns invariant-loop decreases-loop
-returns c = c.before.loop.invariant ∙ ap all_letters (take_all c.before.loop.i c.before.before.before.args.piece.now (omega (arith, c.loop-test.false)))
+returns c = c.before.loop-i.invariant ∙ ap all_letters (take_all c.before.loop-i.i c.before.before.before.args.piece.now (omega (arith, c.loop-i-test.false)))
 
-pub all-letters-spec : {M : Type 1} → statement M
+pub all_letters_spec : {M : Type 1} → statement M
 unfolding all_letters
-all-letters-spec =
+all_letters_spec =
     tie.close
     (tie.spec
     invariant-loop

@@ -20,5 +20,5 @@ unfolding is_letter
 none_of x n =
     cc (ne_eqb x 65 (λ e. n (inl e)), ne_eqb x 67 (λ e. n (inr (inl e))), ne_eqb x 71 (λ e. n (inr (inr (inl e)))), ne_eqb x 84 (λ e. n (inr (inr (inr e)))))
 
-pub is-letter-spec : {M : Type 1} → statement M
-is-letter-spec = tie.close (tie.spec (λ c. one_of c.before.args.c c.match.keys1) (λ c. none_of c.before.args.c c.match.rest.1))
+pub is_letter_spec : {M : Type 1} → statement M
+is_letter_spec = tie.close (tie.spec (λ c. one_of c.before.args.c c.in-65.is) (λ c. none_of c.before.args.c c.in_default.in_default-own.rest.1))

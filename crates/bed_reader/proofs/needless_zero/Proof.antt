@@ -5,14 +5,14 @@ use Rattle.bed_reader.proofs.Fields.{zero-short, zero-long}
 use Rattle.bed_reader.proofs.needless_zero.Statement.{statement}
 use Rattle.bed_reader.proofs.needless_zero.Tie as tie
 
-returns : tie.Need-returns
+returns : tie.Need-returns-then-field-lt2
 returns c = sym (zero-short _ (omega arith))
 
-shared-slice-read-result : tie.Need-shared-slice-read-result
-shared-slice-read-result c = omega arith
+shared_slice_read-result : tie.Need-bounds-field-0
+shared_slice_read-result c = omega arith
 
-returns-2 : tie.Need-returns-2
+returns-2 : tie.Need-returns
 returns-2 c = sym (zero-long _ (omega arith))
 
-pub needless-zero-spec : {M : Type 1} → statement M
-needless-zero-spec = tie.close (tie.spec returns shared-slice-read-result returns-2)
+pub needless_zero_spec : {M : Type 1} → statement M
+needless_zero_spec = tie.close (tie.spec returns shared_slice_read-result returns-2)

@@ -17,11 +17,11 @@ use Rattle.bed_reader.proofs.Fields.{digits_more, value-more, no-digits, no_valu
 use Rattle.bed_reader.proofs.read_number.Statement.{statement}
 use Rattle.bed_reader.proofs.read_number.Tie as tie
 
-abbrev invariant-loop : tie.invariant-loop
+abbrev invariant-loop : tie.invariant-loop-i
 invariant-loop field n said₀ i₀ said i =
     (i ≤ length field) × (all_digits field ≡ all_digits (drop i field)) × (value field ≡ value_from said (drop i field)) × (said ≤ most i)
 
-abbrev decreases-loop : tie.decreases-loop
+abbrev decreases-loop : tie.decreases-loop-i
 decreases-loop field n said₀ i₀ said i = length field - i
 
 module _ (w : Word) where
@@ -59,80 +59,80 @@ module _ (w : Word) where
     a-digit : 48 ≤ get_or w i 0 → get_or w i 0 ≤ 57 → all_digits w ≡ all_digits (drop (i + 1) w)
     a-digit k m = from ∙ digits_more w i h ∙ simp (le-leb 48 (get_or w i 0) k, le-leb (get_or w i 0) 57 m)
 
-returns : tie.Need-returns invariant-loop decreases-loop
+returns : tie.Need-returns-then-n-lt1 invariant-loop decreases-loop
 returns c = none_of _ (too_short _ (omega arith))
 
-returns-2 : tie.Need-returns-2 invariant-loop decreases-loop
+returns-2 : tie.Need-returns-then-n-gt4 invariant-loop decreases-loop
 returns-2 c = none_of _ (too_long _ (omega arith))
 
-needless-zero-requires : tie.Need-needless-zero-requires invariant-loop decreases-loop
-needless-zero-requires c κs = search rules
+needless_zero-requires : tie.Need-needless_zero-requires invariant-loop decreases-loop
+needless_zero-requires c κs = search rules
 
-returns-3 : tie.Need-returns-3 invariant-loop decreases-loop
-returns-3 c = none_of _ (zero-first _ (sym c.before.needless-zero.ensures ∙ c.if3.true))
+returns-3 : tie.Need-returns-then-needless_zero invariant-loop decreases-loop
+returns-3 c = none_of _ (zero-first _ (sym c.before.needless_zero.ensures ∙ c.if-needless_zero.true))
 
-loop-holds : tie.Need-loop-init invariant-loop decreases-loop
+loop-holds : tie.Need-loop-i-init invariant-loop decreases-loop
 unfolding value
 loop-holds c = (omega arith, refl, refl, omega arith)
 
-shared-slice-read-b : tie.Need-shared-slice-read-b invariant-loop decreases-loop
-shared-slice-read-b c = omega arith
+shared_slice_read-b : tie.Need-bounds-field-i invariant-loop decreases-loop
+shared_slice_read-b c = omega arith
 
-returns-4 : tie.Need-returns-4 invariant-loop decreases-loop
+returns-4 : tie.Need-returns-then-b-lt48 invariant-loop decreases-loop
 returns-4 c =
-    let loop = c.before.before.before.loop in
-    none_of _ (too-low _ loop.i (omega arith) loop.invariant.1 c.if4.true)
+    let loop = c.before.before.before.loop-i in
+    none_of _ (too-low _ loop.i (omega arith) loop.invariant.1 c.if-b-lt48.true)
 
-returns-5 : tie.Need-returns-5 invariant-loop decreases-loop
+returns-5 : tie.Need-returns-then-b-gt57 invariant-loop decreases-loop
 returns-5 c =
-    let loop = c.before.before.before.before.loop in
-    none_of _ (too-high _ loop.i (omega arith) loop.invariant.1 c.if5.true)
+    let loop = c.before.before.before.before.loop-i in
+    none_of _ (too-high _ loop.i (omega arith) loop.invariant.1 c.if-b-gt57.true)
 
-mul-said : tie.Need-overflow-mul-said invariant-loop decreases-loop
-mul-said c = let loop = c.before.before.before.before.loop in omega (arith, most-small loop.i (omega arith))
+mul-said : tie.Need-overflow_mul-said invariant-loop decreases-loop
+mul-said c = let loop = c.before.before.before.before.loop-i in omega (arith, most-small loop.i (omega arith))
 
-cast-said : tie.Need-overflow-cast-said invariant-loop decreases-loop
+cast-said : tie.Need-overflow_cast-said invariant-loop decreases-loop
 cast-said c = omega arith
 
-add-said : tie.Need-overflow-add-said invariant-loop decreases-loop
-add-said c = let loop = c.before.before.before.before.loop in omega (arith, most-small loop.i (omega arith))
+add-said : tie.Need-overflow_add-said invariant-loop decreases-loop
+add-said c = let loop = c.before.before.before.before.loop-i in omega (arith, most-small loop.i (omega arith))
 
-add-i : tie.Need-overflow-add-i invariant-loop decreases-loop
+add-i : tie.Need-overflow_add-i invariant-loop decreases-loop
 add-i c = omega arith
 
-loop-less : tie.Need-loop-smaller invariant-loop decreases-loop
+loop-less : tie.Need-loop-i-smaller invariant-loop decreases-loop
 loop-less c = omega arith
 
-loop-again : tie.Need-loop-preserved invariant-loop decreases-loop
+loop-again : tie.Need-loop-i-preserved invariant-loop decreases-loop
 loop-again c =
-    let loop = c.before.before.before.before.loop in
+    let loop = c.before.before.before.before.loop-i in
     let up : most (loop.i + 1) ≡ most loop.i * 10 + 9 = ap most (add-one loop.i) in (
       omega arith,
-      a-digit _ loop.i (omega arith) loop.invariant.1 c.before.if4.false c.if5.false,
+      a-digit _ loop.i (omega arith) loop.invariant.1 c.before.if-b-lt48.false c.if-b-gt57.false,
       loop.invariant.2
           ∙ value-more _ loop.i (omega arith) loop.said,
       omega arith,
     )
 
-returns-6 : tie.Need-returns-6 invariant-loop decreases-loop
+returns-6 : tie.Need-returns invariant-loop decreases-loop
 returns-6 c =
-    let loop = c.before.loop in
+    let loop = c.before.loop-i in
     let named = c.before.before in
-    said_all _ loop.said (omega arith) (omega arith) (sym named.before.needless-zero.ensures ∙ named.if3.false)
+    said_all _ loop.said (omega arith) (omega arith) (sym named.before.needless_zero.ensures ∙ named.if-needless_zero.false)
     (loop.invariant.1 ∙ no-digits _ loop.i (omega arith)) (loop.invariant.2 ∙ no_value _ loop.i loop.said (omega arith))
 
-pub read-number-spec : {M : Type 1} → statement M
-read-number-spec =
+pub read_number_spec : {M : Type 1} → statement M
+read_number_spec =
     tie.close
     (tie.spec
     invariant-loop
     decreases-loop
     returns
     returns-2
-    needless-zero-requires
+    needless_zero-requires
     returns-3
     loop-holds
-    shared-slice-read-b
+    shared_slice_read-b
     returns-4
     returns-5
     mul-said

@@ -13,10 +13,10 @@ use Rattle.palindromes.proofs.Tests.{not-true-false, same_true}
 use Rattle.bed_reader.proofs.same_word.Statement.{statement}
 use Rattle.bed_reader.proofs.same_word.Tie as tie
 
-abbrev invariant-loop : tie.invariant-loop
+abbrev invariant-loop : tie.invariant-loop-i
 invariant-loop u v i₀ i = (i ≤ length u) × (same_word u v ≡ same_word (drop i u) (drop i v))
 
-abbrev decreases-loop : tie.decreases-loop
+abbrev decreases-loop : tie.decreases-loop-i
 decreases-loop u v i₀ i = length u - i
 
 -- words of different lengths
@@ -33,49 +33,49 @@ none_left : (u v : Word) (i : ℕ) → length u ≤ i → length v ≤ i → sam
 unfolding same_word
 none_left u v i h k = rw (drop_of_length-le u h, drop_of_length-le v k)
 
-returns : tie.Need-returns invariant-loop decreases-loop
-returns c = sym (other_length _ _ c.if1.true)
+returns : tie.Need-returns-then-u-v invariant-loop decreases-loop
+returns c = sym (other_length _ _ c.if-u-v.true)
 
-loop-holds : tie.Need-loop-init invariant-loop decreases-loop
+loop-holds : tie.Need-loop-i-init invariant-loop decreases-loop
 loop-holds c = (omega arith, refl)
 
-shared-slice-read-if2 : tie.Need-shared-slice-read-if2 invariant-loop decreases-loop
-shared-slice-read-if2 c = omega arith
+shared_slice_read-if2 : tie.Need-bounds-u-i invariant-loop decreases-loop
+shared_slice_read-if2 c = omega arith
 
-shared-slice-read-if2-2 : tie.Need-shared-slice-read-if2-2 invariant-loop decreases-loop
-shared-slice-read-if2-2 c = omega arith
+shared_slice_read-if2-2 : tie.Need-bounds-v-i invariant-loop decreases-loop
+shared_slice_read-if2-2 c = omega arith
 
-returns-2 : tie.Need-returns-2 invariant-loop decreases-loop
+returns-2 : tie.Need-returns-then-u-i invariant-loop decreases-loop
 returns-2 c =
-    let loop = c.before.before.before.before.loop in
-    sym (loop.invariant.1 ∙ one_more _ _ loop.i (omega arith) (omega arith) ∙ simp (ne_eqb _ _ c.if2.true))
+    let loop = c.before.before.before.before.loop-i in
+    sym (loop.invariant.1 ∙ one_more _ _ loop.i (omega arith) (omega arith) ∙ simp (ne_eqb _ _ c.if-u-i.true))
 
-add-i : tie.Need-overflow-add-i invariant-loop decreases-loop
+add-i : tie.Need-overflow_add-i invariant-loop decreases-loop
 add-i c = omega arith
 
-loop-less : tie.Need-loop-smaller invariant-loop decreases-loop
+loop-less : tie.Need-loop-i-smaller invariant-loop decreases-loop
 loop-less c = omega arith
 
-loop-again : tie.Need-loop-preserved invariant-loop decreases-loop
+loop-again : tie.Need-loop-i-preserved invariant-loop decreases-loop
 loop-again c =
-    let loop = c.before.before.before.before.loop in
-    (omega arith, loop.invariant.1 ∙ one_more _ _ loop.i (omega arith) (omega arith) ∙ simp (eq-eqb _ _ c.if2.false))
+    let loop = c.before.before.before.before.loop-i in
+    (omega arith, loop.invariant.1 ∙ one_more _ _ loop.i (omega arith) (omega arith) ∙ simp (eq-eqb _ _ c.if-u-i.false))
 
-returns-3 : tie.Need-returns-3 invariant-loop decreases-loop
+returns-3 : tie.Need-returns invariant-loop decreases-loop
 returns-3 c =
-    let loop = c.before.loop in
+    let loop = c.before.loop-i in
     sym (loop.invariant.1 ∙ none_left _ _ loop.i (omega arith) (omega arith))
 
-pub same-word-spec : {M : Type 1} → statement M
-same-word-spec =
+pub same_word_spec : {M : Type 1} → statement M
+same_word_spec =
     tie.close
     (tie.spec
     invariant-loop
     decreases-loop
     returns
     loop-holds
-    shared-slice-read-if2
-    shared-slice-read-if2-2
+    shared_slice_read-if2
+    shared_slice_read-if2-2
     returns-2
     add-i
     loop-less

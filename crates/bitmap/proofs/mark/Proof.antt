@@ -18,29 +18,29 @@ module _ (from i : ℕ) (bits : Word) where
   inside : (t : Bool) → in_window from i bits ≡ true → bit_at bits (i - from) ≡ t → not t ≡ (in_window from i bits && not (bit_at bits (i - from)))
   inside t h k = rw (h, k) refl
 
-returns : tie.Need-returns
+returns : tie.Need-returns-then-i-from
 returns c =
     let a = c.before.args in
-    (outside a.from a.i a.bits.now (window-not a.from a.i a.bits.now λ h k. omega (arith, c.if1.true)), refl)
+    (outside a.from a.i a.bits.now (window-not a.from a.i a.bits.now λ h k. omega (arith, c.if-i-from.true)), refl)
 
-returns-2 : tie.Need-returns-2
+returns-2 : tie.Need-returns-then-bits-byte
 returns-2 c =
     let a = c.before.before.args in
-    (outside a.from a.i a.bits.now (window-not a.from a.i a.bits.now λ h k. omega (arith, c.if2.true)), refl)
+    (outside a.from a.i a.bits.now (window-not a.from a.i a.bits.now λ h k. omega (arith, c.if-bits-byte.true)), refl)
 
-returns-3 : tie.Need-returns-3
+returns-3 : tie.Need-returns-then-bits-byte-ne0
 returns-3 c =
     let a = c.before.before.before.before.args in
-    let low = c.before.before.before.if1.false in
-    let has = window-is a.from a.i a.bits.now (omega (arith, low)) (omega (arith, c.before.before.if2.false, low)) in
-    (inside a.from a.i a.bits.now true has (bit_is a.bits.now (a.i - a.from) c.if3.true), refl)
+    let low = c.before.before.before.if-i-from.false in
+    let has = window-is a.from a.i a.bits.now (omega (arith, low)) (omega (arith, c.before.before.if-bits-byte.false, low)) in
+    (inside a.from a.i a.bits.now true has (bit_is a.bits.now (a.i - a.from) c.if-bits-byte-ne0.true), refl)
 
-returns-4 : tie.Need-returns-4
+returns-4 : tie.Need-returns
 returns-4 c =
     let a = c.before.before.before.before.before.args in
-    let low = c.before.before.before.before.if1.false in
-    let has = window-is a.from a.i a.bits.now (omega (arith, low)) (omega (arith, c.before.before.before.if2.false, low)) in
-    (inside a.from a.i a.bits.now false has (bit_not a.bits.now (a.i - a.from) c.before.if3.false), bit-given a.bits.now (a.i - a.from))
+    let low = c.before.before.before.before.if-i-from.false in
+    let has = window-is a.from a.i a.bits.now (omega (arith, low)) (omega (arith, c.before.before.before.if-bits-byte.false, low)) in
+    (inside a.from a.i a.bits.now false has (bit_not a.bits.now (a.i - a.from) c.before.if-bits-byte-ne0.false), bit-given a.bits.now (a.i - a.from))
 
 pub mark_spec : {M : Type 1} → statement M
 mark_spec =

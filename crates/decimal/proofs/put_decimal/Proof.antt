@@ -24,43 +24,43 @@ module _ (l : Word) (at i n : ℕ) (place : i + 1 ≡ at + length (decimal n)) w
       let here : i ≡ at = omega (arith, length-one n h) in
       rw (here, decimal-one n h)
 
-abbrev invariant-loop : tie.invariant-loop
+abbrev invariant-loop : tie.invariant-loop-left
 invariant-loop out₀ at n end left₀ i₀ out left i =
     (i + 1 ≡ at + length (decimal left)) × (i < end) × (sets out at (decimal left) ≡ sets out₀ at (decimal n)) × (length out ≡ length out₀)
 
-abbrev decreases-loop : tie.decreases-loop
+abbrev decreases-loop : tie.decreases-loop-left
 decreases-loop out₀ at n end left₀ i₀ out left i = left
 
 digits-requires : tie.Need-digits-requires invariant-loop decreases-loop
 digits-requires c κs = omega arith
 
-add-end : tie.Need-overflow-add-end invariant-loop decreases-loop
+add-end : tie.Need-overflow_add-end invariant-loop decreases-loop
 add-end c = omega arith
 
-sub-i : tie.Need-overflow-sub-i invariant-loop decreases-loop
+sub-i : tie.Need-overflow_sub-i invariant-loop decreases-loop
 sub-i c = omega arith
 
-loop-holds : tie.Need-loop-init invariant-loop decreases-loop
+loop-holds : tie.Need-loop-left-init invariant-loop decreases-loop
 loop-holds c = (omega arith, omega arith, refl, refl)
 
-cast-out : tie.Need-overflow-cast-out invariant-loop decreases-loop
+cast-out : tie.Need-overflow_cast-out invariant-loop decreases-loop
 cast-out c = omega arith
 
-add-out : tie.Need-overflow-add-out invariant-loop decreases-loop
+add-out : tie.Need-overflow_add-out invariant-loop decreases-loop
 add-out c = omega arith
 
-slice-write-out : tie.Need-slice-write-out invariant-loop decreases-loop
-slice-write-out c = omega arith
+slice_write-out : tie.Need-bounds-out-i invariant-loop decreases-loop
+slice_write-out c = omega arith
 
-sub-i-2 : tie.Need-overflow-sub-i-2 invariant-loop decreases-loop
-sub-i-2 c = let left = c.before.loop.left in omega (arith, length_more left (omega arith), some-digit (left / 10))
+sub-i-2 : tie.Need-overflow_sub-i-in-loop-left invariant-loop decreases-loop
+sub-i-2 c = let left = c.before.loop-left.left in omega (arith, length_more left (omega arith), some-digit (left / 10))
 
-loop-less : tie.Need-loop-smaller invariant-loop decreases-loop
+loop-less : tie.Need-loop-left-smaller invariant-loop decreases-loop
 loop-less c = omega arith
 
-loop-again : tie.Need-loop-preserved invariant-loop decreases-loop
+loop-again : tie.Need-loop-left-preserved invariant-loop decreases-loop
 loop-again c =
-    let loop = c.before.loop in
+    let loop = c.before.loop-left in
     let at = c.before.before.before.before.args.at in (
       omega (arith, length_more loop.left (omega arith), some-digit (loop.left / 10)),
       omega arith,
@@ -68,26 +68,26 @@ loop-again c =
       simp length-set loop.invariant.3,
     )
 
-cast-out-2 : tie.Need-overflow-cast-out-2 invariant-loop decreases-loop
+cast-out-2 : tie.Need-overflow_cast-out-2 invariant-loop decreases-loop
 cast-out-2 c = omega arith
 
-add-out-2 : tie.Need-overflow-add-out-2 invariant-loop decreases-loop
+add-out-2 : tie.Need-overflow_add-out-2 invariant-loop decreases-loop
 add-out-2 c = omega arith
 
-slice-write-out-2 : tie.Need-slice-write-out-2 invariant-loop decreases-loop
-slice-write-out-2 c = omega arith
+slice_write-out-2 : tie.Need-bounds-out-i-2 invariant-loop decreases-loop
+slice_write-out-2 c = omega arith
 
-same_length : tie.Need-same-length invariant-loop decreases-loop
-same_length c = simp length-set c.before.loop.invariant.3
+same_length : tie.Need-shape_of-out invariant-loop decreases-loop
+same_length c = simp length-set c.before.loop-left.invariant.3
 
 returns : tie.Need-returns invariant-loop decreases-loop
 returns c =
-    let loop = c.before.loop in
+    let loop = c.before.loop-left in
     let at = c.before.before.before.before.args.at in
     (store-one loop.out at loop.i loop.left loop.invariant.0 (omega arith) ∙ loop.invariant.2, omega arith)
 
-pub put-decimal-spec : {M : Type 1} → statement M
-put-decimal-spec =
+pub put_decimal_spec : {M : Type 1} → statement M
+put_decimal_spec =
     tie.close
     (tie.spec
     invariant-loop
@@ -98,12 +98,12 @@ put-decimal-spec =
     loop-holds
     cast-out
     add-out
-    slice-write-out
+    slice_write-out
     sub-i-2
     loop-less
     loop-again
     cast-out-2
     add-out-2
-    slice-write-out-2
+    slice_write-out-2
     same_length
     returns)

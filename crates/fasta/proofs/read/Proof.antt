@@ -5,18 +5,18 @@ use Rattle.fasta.proofs.Answering.{empty-is-bad, bad-text, good-text, answers-re
 use Rattle.fasta.proofs.read.Statement.{statement}
 use Rattle.fasta.proofs.read.Tie as tie
 
-returns : tie.Need-returns
-returns c = answers-refusal _ 10 _ (bad-text _ (empty-is-bad _ c.if1.true))
+returns : tie.Need-returns-then-text-eq0
+returns c = answers-refusal _ 10 _ (bad-text _ (empty-is-bad _ c.if-text-eq0.true))
 
-returns-2 : tie.Need-returns-2
+returns-2 : tie.Need-returns-then-good_first_line
 returns-2 c =
     let answered = c.before.before in
     let first = answered.before.before.before in
-    rw (good-text _ _ (sym first.good-first-line.ensures ∙ answered.before.before.if2.true) first.before.identifier-length.ensures)
-    answered.read-later-lines.ensures
+    rw (good-text _ _ (sym first.good_first_line.ensures ∙ answered.before.before.if-good_first_line.true) first.before.identifier_length-n.ensures)
+    answered.read_later_lines.ensures
 
-returns-3 : tie.Need-returns-3
-returns-3 c = answers-refusal _ 10 _ (bad-text _ (sym c.before.good-first-line.ensures ∙ c.if2.false))
+returns-3 : tie.Need-returns-else-good_first_line
+returns-3 c = answers-refusal _ 10 _ (bad-text _ (sym c.before.good_first_line.ensures ∙ c.if-good_first_line.false))
 
 pub read_spec : {M : Type 1} → statement M
 read_spec =

@@ -12,43 +12,43 @@ use Rattle.fasta.proofs.Answering.{fault-found, letters-found, good-lines, answe
 use Rattle.fasta.proofs.read_later_lines.Statement.{statement}
 use Rattle.fasta.proofs.read_later_lines.Tie as tie
 
-module _ (c : tie.After-count-letters) where
+module _ (c : tie.After-count_letters) where
   abbrev text : Word
   text = c.before.before.before.before.args.text.now
 
   -- the lines that were counted
   abbrev body : Body
-  body = read_lines (drop c.before.later-lines-at.result text) true 1024
+  body = read_lines (drop c.before.later_lines_at-start.result text) true 1024
 
   -- they are those after the first
   counted-after : (n : ℕ) → with_identifier n (read_lines (after_first_line (drop 1 text)) true 1024) ≡ with_identifier n body
-  counted-after n = ap (λ (w : Word). with_identifier n (read_lines w true 1024)) (sym c.before.later-lines-at.ensures)
+  counted-after n = ap (λ (w : Word). with_identifier n (read_lines w true 1024)) (sym c.before.later_lines_at-start.ensures)
 
-module _ (c : tie.After-m) where
+module _ (c : tie.In-Letters) where
   -- the lines were good, and hold as many letters as were counted
-  good : (body c.before.before ≡ letters (letters_of (body c.before.before))) × (length (letters_of (body c.before.before)) ≡ c.m.given.0.0)
-  good = letters-found _ (body c.before.before) (sym c.m.given.1 ∙ c.before.before.count-letters.ensures)
+  good : (body c.before ≡ letters (letters_of (body c.before))) × (length (letters_of (body c.before)) ≡ c.in-Letters.m)
+  good = letters-found _ (body c.before) (sym c.in-Letters.is ∙ c.before.count_letters.ensures)
 
-  accepts : (n : ℕ) → with_identifier n (read_lines (after_first_line (drop 1 (text c.before.before))) true 1024) ≡ accepted n (letters_of (body c.before.before))
-  accepts n = counted-after c.before.before n ∙ good-lines n (body c.before.before) good.0
+  accepts : (n : ℕ) → with_identifier n (read_lines (after_first_line (drop 1 (text c.before))) true 1024) ≡ accepted n (letters_of (body c.before))
+  accepts n = counted-after c.before n ∙ good-lines n (body c.before) good.0
 
-returns : tie.Need-returns
+returns : tie.Need-returns-then-out-m
 returns c =
-    let found = c.before.before in
-    answers-short _ _ _ _ _ (accepts found _) (good found).1 c.if1.true
+    let found = c.before in
+    answers-short _ _ _ _ _ (accepts found _) (good found).1 c.if-out-m.true
 
-write-letters-requires : tie.Need-write-letters-requires
-write-letters-requires c κs = let found = c.before.before.before in ((good found).0, omega (arith, (good found).1, c.before.if1.false))
+write_letters-requires : tie.Need-write_letters-requires
+write_letters-requires c κs = let found = c.before.before in ((good found).0, omega (arith, (good found).1, c.before.if-out-m.false))
 
-returns-2 : tie.Need-returns-2
+returns-2 : tie.Need-returns-in-Fault
 returns-2 c =
-    let counted = c.before.before.before in
-    answers-refusal _ _ _ (counted-after counted _ ∙ fault-found _ _ (body counted) (sym c.before.number.given.1 ∙ counted.count-letters.ensures))
+    let counted = c.before in
+    answers-refusal _ _ _ (counted-after counted _ ∙ fault-found _ _ (body counted) (sym c.in-Fault.is ∙ counted.count_letters.ensures))
 
-returns-3 : tie.Need-returns-3
+returns-3 : tie.Need-returns-else-out-m
 returns-3 c =
     let written = c.before.before in
-    let found = written.before.before.before.before in
+    let found = written.before.before.before in
     answers-letters
     _
     _
@@ -58,11 +58,11 @@ returns-3 c =
     (accepts found _)
     (good found).1
     _
-    written.before.before.if1.false
-    written.write-letters.ensures
+    written.before.before.if-out-m.false
+    written.write_letters.ensures
 
-pub read-later-lines-spec : {M : Type 1} → statement M
-read-later-lines-spec =
+pub read_later_lines_spec : {M : Type 1} → statement M
+read_later_lines_spec =
     tie.close
     (tie.spec
     (λ c κs. search rules)
@@ -70,7 +70,7 @@ read-later-lines-spec =
     (λ c. search rules)
     (λ c. search rules)
     returns
-    write-letters-requires
+    write_letters-requires
     returns-2
     (λ c. search rules)
     returns-3)

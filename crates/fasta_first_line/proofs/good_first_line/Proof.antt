@@ -6,28 +6,28 @@ use Rattle.fasta_first_line.proofs.FirstLine.{first-line-tests}
 use Rattle.fasta_first_line.proofs.good_first_line.Statement.{statement}
 use Rattle.fasta_first_line.proofs.good_first_line.Tie as tie
 
-returns : tie.Need-returns
+returns : tie.Need-returns-then-text-ne62
 returns c =
     let start = c.before.before.before in
-    sym (first-line-tests _ _ start.requires.0 start.requires.1 ∙ simp (ne_eqb _ _ c.if1.true))
+    sym (first-line-tests _ _ start.requires.0 start.requires.1 ∙ simp (ne_eqb _ _ c.if-text-ne62.true))
 
-returns-2 : tie.Need-returns-2
+returns-2 : tie.Need-returns-then-n-lt1
 returns-2 c =
     let start = c.before.before.before.before in
-    sym (first-line-tests _ _ start.requires.0 start.requires.1 ∙ simp (eq-eqb _ _ c.before.if1.false, lt-leb _ _ c.if2.true))
+    sym (first-line-tests _ _ start.requires.0 start.requires.1 ∙ simp (eq-eqb _ _ c.before.if-text-ne62.false, lt-leb _ _ c.if-n-lt1.true))
 
-returns-3 : tie.Need-returns-3
+returns-3 : tie.Need-returns-then-n-gt32
 returns-3 c =
     let start = c.before.before.before.before.before in
-    sym (first-line-tests _ _ start.requires.0 start.requires.1 ∙ simp (eq-eqb _ _ c.before.before.if1.false, le-leb _ _ c.before.if2.false, lt-leb _ _ c.if3.true))
+    sym (first-line-tests _ _ start.requires.0 start.requires.1 ∙ simp (eq-eqb _ _ c.before.before.if-text-ne62.false, le-leb _ _ c.before.if-n-lt1.false, lt-leb _ _ c.if-n-gt32.true))
 
-returns-4 : tie.Need-returns-4
+returns-4 : tie.Need-returns
 returns-4 c =
     let start = c.before.before.before.before.before.before in
-    sym (first-line-tests _ _ start.requires.0 start.requires.1 ∙ simp (eq-eqb _ _ c.before.before.before.if1.false, le-leb _ _ c.before.before.if2.false, le-leb _ _ c.before.if3.false, sym c.identifier-ends-at.ensures))
+    sym (first-line-tests _ _ start.requires.0 start.requires.1 ∙ simp (eq-eqb _ _ c.before.before.before.if-text-ne62.false, le-leb _ _ c.before.before.if-n-lt1.false, le-leb _ _ c.before.if-n-gt32.false, sym c.identifier_ends_at.ensures))
 
-pub good-first-line-spec : {M : Type 1} → statement M
-good-first-line-spec =
+pub good_first_line_spec : {M : Type 1} → statement M
+good_first_line_spec =
     tie.close
     (tie.spec
     (λ c. search rules)

@@ -9,23 +9,23 @@ use Rattle.fasta_first_line.proofs.FirstLine.{line-goes-on, line-ends, no-later-
 use Rattle.fasta_first_line.proofs.later_lines_at.Statement.{statement}
 use Rattle.fasta_first_line.proofs.later_lines_at.Tie as tie
 
-abbrev invariant-loop : tie.invariant-loop
+abbrev invariant-loop : tie.invariant-loop-i
 invariant-loop text i₀ i = after_first_line (drop i text) ≡ after_first_line (drop 1 text)
 
-abbrev decreases-loop : tie.decreases-loop
+abbrev decreases-loop : tie.decreases-loop-i
 decreases-loop text i₀ i = length text - i
 
-returns : tie.Need-returns invariant-loop decreases-loop
-returns c = sym (line-ends _ _ c.before.before.loop-test.true c.if1.true) ∙ c.before.before.before.loop.invariant
+returns : tie.Need-returns-then-text-i-eq10 invariant-loop decreases-loop
+returns c = sym (line-ends _ _ c.before.before.loop-i-test.true c.if-text-i-eq10.true) ∙ c.before.before.before.loop-i.invariant
 
-loop-again : tie.Need-loop-preserved invariant-loop decreases-loop
-loop-again c = sym (line-goes-on _ _ c.before.before.loop-test.true c.if1.false) ∙ c.before.before.before.loop.invariant
+loop-again : tie.Need-loop-i-preserved invariant-loop decreases-loop
+loop-again c = sym (line-goes-on _ _ c.before.before.loop-i-test.true c.if-text-i-eq10.false) ∙ c.before.before.before.loop-i.invariant
 
-returns-2 : tie.Need-returns-2 invariant-loop decreases-loop
-returns-2 c = sym (no-later-line _ _ c.loop-test.false) ∙ c.before.loop.invariant
+returns-2 : tie.Need-returns invariant-loop decreases-loop
+returns-2 c = sym (no-later-line _ _ c.loop-i-test.false) ∙ c.before.loop-i.invariant
 
-pub later-lines-at-spec : {M : Type 1} → statement M
-later-lines-at-spec =
+pub later_lines_at_spec : {M : Type 1} → statement M
+later_lines_at_spec =
     tie.close
     (tie.spec
     invariant-loop

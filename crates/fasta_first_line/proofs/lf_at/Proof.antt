@@ -6,11 +6,11 @@ use Rattle.fasta_first_line.proofs.Places.{lf-inside, lf-outside}
 use Rattle.fasta_first_line.proofs.lf_at.Statement.{statement}
 use Rattle.fasta_first_line.proofs.lf_at.Tie as tie
 
-returns : tie.Need-returns
-returns c = sym (lf-inside _ _ c.before.if1.true)
+returns : tie.Need-returns-then-at-text
+returns c = sym (lf-inside _ _ c.before.if-at-text.true)
 
-returns-2 : tie.Need-returns-2
-returns-2 c = le-ltb _ _ c.if1.false ∙ sym (lf-outside _ _ c.if1.false)
+returns-2 : tie.Need-returns-else-at-text
+returns-2 c = le-ltb _ _ c.if-at-text.false ∙ sym (lf-outside _ _ c.if-at-text.false)
 
-pub lf-at-spec : {M : Type 1} → statement M
-lf-at-spec = tie.close (tie.spec (λ c. search rules) returns returns-2)
+pub lf_at_spec : {M : Type 1} → statement M
+lf_at_spec = tie.close (tie.spec (λ c. search rules) returns returns-2)

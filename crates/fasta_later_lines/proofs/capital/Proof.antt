@@ -7,5 +7,5 @@ use Rattle.fasta_later_lines.proofs.capital.Tie as tie
 returns : tie.Need-returns
 returns c = capital-is _ c.requires
 
-pub capital-spec : {M : Type 1} → statement M
-capital-spec = tie.close (tie.spec (λ c. search rules) returns)
+pub capital_spec : {M : Type 1} → statement M
+capital_spec = tie.close (tie.spec (λ c. search rules) returns)

@@ -35,5 +35,5 @@ none_of x n = sym (letter-kept x (λ e. n (small (inl e))) (λ e. n (small (inr 
     none : is_letter x ≡ false
     none = cc (ne_eqb x 65 (λ e. n (inl e)), ne_eqb x 67 (λ e. n (inr (inl e))), ne_eqb x 71 (λ e. n (inr (inr (inl e)))), ne_eqb x 84 (λ e. n (inr (inr (inr (inl e))))))
 
-pub reads-as-letter-spec : {M : Type 1} → statement M
-reads-as-letter-spec = tie.close (tie.spec (λ c. one_of c.before.args.b c.match.keys1) (λ c. none_of c.before.args.b c.match.rest.1))
+pub reads_as_letter_spec : {M : Type 1} → statement M
+reads_as_letter_spec = tie.close (tie.spec (λ c. one_of c.before.args.b c.in-65.is) (λ c. none_of c.before.args.b c.in_default.in_default-own.rest.1))

@@ -6,13 +6,13 @@ use Rattle.genbank.proofs.Case.{lower-capital, lower-below, lower-above}
 use Rattle.genbank.proofs.lower.Statement.{statement}
 use Rattle.genbank.proofs.lower.Tie as tie
 
-returns : tie.Need-returns
+returns : tie.Need-returns-in-65-to-90
 returns c = sym (lower-capital _ (omega arith) (omega arith))
 
-returns-2 : tie.Need-returns-2
+returns-2 : tie.Need-returns-in_default
 returns-2 c = sym (lower-below _ (omega arith))
 
-returns-3 : tie.Need-returns-3
+returns-3 : tie.Need-returns-in_default-2
 returns-3 c = sym (lower-above _ (omega arith))
 
 pub lower_spec : {M : Type 1} → statement M

@@ -17,58 +17,58 @@ abbrev whole : tie.Start → Word
 whole s = origin_line s.args.place s.args.w.now ++ (10 ∷ [])
 
 -- what is left behind the place, and behind the groups
-abbrev from_place : tie.After-put-place → tie.Start
+abbrev from_place : tie.After-put_place-first → tie.Start
 from_place c = c.before.before.before.before
 
-behind-place : (c : tie.After-put-place)
+behind-place : (c : tie.After-put_place-first)
     → let s = from_place c in
-    Unwritten s.args.out.now s.args.at (whole s) c.put-place.new.0 c.put-place.result (groups (cut 10 s.args.w.now) ++ (10 ∷ []))
+    Unwritten s.args.out.now s.args.at (whole s) c.put_place-first.new.out c.put_place-first.result (groups (cut 10 s.args.w.now) ++ (10 ∷ []))
 behind-place c =
     let s = from_place c in
     let columns = right_justified 9 (decimal s.args.place) in
-    left-next columns _ (left_as (line-parts s.args.place s.args.w.now) (all_left s.args.out.now s.args.at (whole s))) c.put-place.ensures.0
-    (c.put-place.ensures.1 ∙ ap (λ (n : ℕ). s.args.at + n) (sym (place-size s.args.place (omega (arith, s.pre.0.0)))))
+    left-next columns _ (left_as (line-parts s.args.place s.args.w.now) (all_left s.args.out.now s.args.at (whole s))) c.put_place-first.ensures.0
+    (c.put_place-first.ensures.1 ∙ ap (λ (n : ℕ). s.args.at + n) (sym (place-size s.args.place (omega (arith, s.requires.0.0)))))
 
-abbrev from-groups : tie.After-put-groups → tie.After-put-place
+abbrev from-groups : tie.After-put_groups-end → tie.After-put_place-first
 from-groups c = c.before.before.before.before
 
-behind-groups : (c : tie.After-put-groups)
+behind-groups : (c : tie.After-put_groups-end)
     → let s = from_place (from-groups c) in
-    Unwritten s.args.out.now s.args.at (whole s) c.put-groups.new.0 c.put-groups.result (10 ∷ [])
+    Unwritten s.args.out.now s.args.at (whole s) c.put_groups-end.new.out c.put_groups-end.result (10 ∷ [])
 behind-groups c =
     let s = from_place (from-groups c) in
-    left-next (groups (cut 10 s.args.w.now)) _ (behind-place (from-groups c)) c.put-groups.ensures.0 c.put-groups.ensures.1
+    left-next (groups (cut 10 s.args.w.now)) _ (behind-place (from-groups c)) c.put_groups-end.ensures.0 c.put_groups-end.ensures.1
 
 -- the whole line has room
 room : (s : tie.Start) → s.args.at + length (whole s) ≤ length s.args.out.now
 room s = omega (arith, s.requires.1, length-append (origin_line s.args.place s.args.w.now) (10 ∷ []))
 
-put-place-requires : tie.Need-put-place-requires
-put-place-requires c κs =
+put_place-requires : tie.Need-put_place-first-requires
+put_place-requires c κs =
     let s = c.before.before.before in
     (s.requires.0.0, omega (arith, s.requires.1, line-size s.args.place s.args.w.now (omega (arith, s.requires.0.0))))
 
-put-groups-requires : tie.Need-put-groups-requires
-put-groups-requires c κs =
+put_groups-requires : tie.Need-put_groups-end-requires
+put_groups-requires c κs =
     let p = c.before.before.before in
     let s = from_place p in
-    (s.pre.0.1, omega (arith, room-left (behind-place p) (room s), length-append (groups (cut 10 s.args.w.now)) (10 ∷ [])))
+    (s.requires.0.1, omega (arith, room-left (behind-place p) (room s), length-append (groups (cut 10 s.args.w.now)) (10 ∷ [])))
 
-slice-write-out : tie.Need-slice-write-out
-slice-write-out c = omega (arith, room-left (behind-groups c.before.before) (room (from_place (from-groups c.before.before))))
+slice_write-out : tie.Need-bounds-out-end
+slice_write-out c = omega (arith, room-left (behind-groups c.before.before) (room (from_place (from-groups c.before.before))))
 
-add-result : tie.Need-overflow-add-result
+add-result : tie.Need-overflow_add-result
 add-result c =
     let g = c.before.before in
-    omega (arith, slice-write-out c, (behind-groups g).same, (from_place (from-groups g)).well-formed.0.0)
+    omega (arith, slice_write-out c, (behind-groups g).same, (from_place (from-groups g)).well_formed.0.0)
 
-finished : (c : tie.After-slice-known3)
+finished : (c : tie.After-slice_known-3-1)
     → let g = c.before.before in
     let s = from_place (from-groups g) in
-    Unwritten s.args.out.now s.args.at (whole s) (set g.put-groups.new.0 g.put-groups.result 10) (g.put-groups.result + 1) []
+    Unwritten s.args.out.now s.args.at (whole s) (set g.put_groups-end.new.out g.put_groups-end.result 10) (g.put_groups-end.result + 1) []
 finished c = left-next (10 ∷ []) [] (behind-groups c.before.before) refl refl
 
-same_length : tie.Need-same-length
+same_length : tie.Need-shape_of-out
 same_length c = (finished c).same
 
 returns : tie.Need-returns
@@ -77,5 +77,5 @@ returns c =
     let f = none_left (finished c) in
     (f.0, f.1 ∙ ap (λ (n : ℕ). s.args.at + n) (length-append (origin_line s.args.place s.args.w.now) (10 ∷ [])))
 
-pub put-line-spec : {M : Type 1} → statement M
-put-line-spec = tie.close (tie.spec put-place-requires put-groups-requires slice-write-out add-result same_length returns)
+pub put_line_spec : {M : Type 1} → statement M
+put_line_spec = tie.close (tie.spec put_place-requires put_groups-requires slice_write-out add-result same_length returns)

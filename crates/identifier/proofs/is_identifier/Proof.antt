@@ -8,16 +8,16 @@ use mathlib.Core.Bool.{true, false, ◌&&◌, and-false}
 use lib.ListN.{length, get_or, drop, drop_of_length-le}
 use lib.Seq.{drop-cons}
 use borrow.Author.Rules.{rules}
-use borrow.Author.Tests.{le-leb, lt-leb, not-true, not-false}
+use borrow.Author.Tests.{le-leb, lt-leb}
 use Rattle.palindromes.specs.Word.{Word}
 use Rattle.palindromes.specs.Bed.{is_identifier_byte, all_identifier_bytes, is_identifier}
 use Rattle.identifier.proofs.is_identifier.Statement.{statement}
 use Rattle.identifier.proofs.is_identifier.Tie as tie
 
-abbrev invariant-loop : tie.invariant-loop
+abbrev invariant-loop : tie.invariant-loop-i
 invariant-loop name i₀ i = (i ≤ length name) × (all_identifier_bytes name ≡ all_identifier_bytes (drop i name))
 
-abbrev decreases-loop : tie.decreases-loop
+abbrev decreases-loop : tie.decreases-loop-i
 decreases-loop name i₀ i = length name - i
 
 module _ (w : Word) (i : ℕ) (as-from : all_identifier_bytes w ≡ all_identifier_bytes (drop i w)) where
@@ -36,49 +36,49 @@ module _ (w : Word) (i : ℕ) (as-from : all_identifier_bytes w ≡ all_identifi
   unfolding is_identifier all_identifier_bytes
   ends h p q = simp (as-from, drop_of_length-le w h, le-leb 1 (length w) p, le-leb (length w) 32 q)
 
-returns : tie.Need-returns invariant-loop decreases-loop
+returns : tie.Need-returns-then-name-lt1 invariant-loop decreases-loop
 unfolding is_identifier
 returns c = simp (lt-leb 1 (length c.before.before.args.name.now) (omega arith))
 
-returns-2 : tie.Need-returns-2 invariant-loop decreases-loop
+returns-2 : tie.Need-returns-then-name-gt32 invariant-loop decreases-loop
 unfolding is_identifier
 returns-2 c = simp (lt-leb (length c.before.before.before.args.name.now) 32 (omega arith), and-false)
 
-loop-holds : tie.Need-loop-init invariant-loop decreases-loop
+loop-holds : tie.Need-loop-i-init invariant-loop decreases-loop
 loop-holds c = (omega arith, refl)
 
 shared-slice-read-is-identifier-byte :
-    tie.Need-shared-slice-read-is-identifier-byte invariant-loop decreases-loop
+    tie.Need-bounds-name-i invariant-loop decreases-loop
 shared-slice-read-is-identifier-byte c = omega arith
 
-is-identifier-byte-requires : tie.Need-is-identifier-byte-requires invariant-loop decreases-loop
-is-identifier-byte-requires c κs = search rules
+is_identifier_byte-requires : tie.Need-is_identifier_byte-requires invariant-loop decreases-loop
+is_identifier_byte-requires c κs = search rules
 
-returns-3 : tie.Need-returns-3 invariant-loop decreases-loop
+returns-3 : tie.Need-returns-then-not-is_identifier_byte invariant-loop decreases-loop
 returns-3 c =
     let turn = c.before.before.before in
-    let loop = turn.before.loop in
-    sym (stops _ loop.i loop.invariant.1 turn.loop-test.true (sym c.before.is-identifier-byte.ensures ∙ not-true _ c.if3.true))
+    let loop = turn.before.loop-i in
+    sym (stops _ loop.i loop.invariant.1 turn.loop-i-test.true (sym c.before.is_identifier_byte.ensures ∙ c.if-not-is_identifier_byte.true))
 
-add-i : tie.Need-overflow-add-i invariant-loop decreases-loop
+add-i : tie.Need-overflow_add-i invariant-loop decreases-loop
 add-i c = omega arith
 
-loop-less : tie.Need-loop-smaller invariant-loop decreases-loop
+loop-less : tie.Need-loop-i-smaller invariant-loop decreases-loop
 loop-less c = omega arith
 
-loop-again : tie.Need-loop-preserved invariant-loop decreases-loop
+loop-again : tie.Need-loop-i-preserved invariant-loop decreases-loop
 loop-again c =
     let turn = c.before.before.before in
-    let loop = turn.before.loop in
-    (omega arith, simp (one_more _ loop.i loop.invariant.1 turn.loop-test.true, sym c.before.is-identifier-byte.ensures ∙ not-false _ c.if3.false))
+    let loop = turn.before.loop-i in
+    (omega arith, simp (one_more _ loop.i loop.invariant.1 turn.loop-i-test.true, sym c.before.is_identifier_byte.ensures ∙ c.if-not-is_identifier_byte.false))
 
-returns-4 : tie.Need-returns-4 invariant-loop decreases-loop
+returns-4 : tie.Need-returns invariant-loop decreases-loop
 returns-4 c =
-    let loop = c.before.loop in
+    let loop = c.before.loop-i in
     sym (ends c.before.before.before.before.before.args.name.now loop.i loop.invariant.1 (omega arith) (omega arith) (omega arith))
 
-pub is-identifier-spec : {M : Type 1} → statement M
-is-identifier-spec =
+pub is_identifier_spec : {M : Type 1} → statement M
+is_identifier_spec =
     tie.close
     (tie.spec
     invariant-loop
@@ -87,7 +87,7 @@ is-identifier-spec =
     returns-2
     loop-holds
     shared-slice-read-is-identifier-byte
-    is-identifier-byte-requires
+    is_identifier_byte-requires
     returns-3
     add-i
     loop-less

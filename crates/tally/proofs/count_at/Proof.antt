@@ -10,7 +10,7 @@ returns c =
     let low = c.before in
     let s = low.before.before in
     let held = four-more s.args.sheet.now 4 s.args.at (omega (arith, s.requires)) in
-    omega (arith, held, low.four-at.ensures.0, c.four-at2.ensures.0)
+    omega (arith, held, low.four_at.ensures.0, c.four_at-2.ensures.0)
 
-pub count-at-spec : {M : Type 1} → statement M
-count-at-spec = tie.close (tie.spec (λ c κs. search rules) (λ c. search rules) (λ c κs. search rules) (λ c. search rules) (λ c. search rules) returns)
+pub count_at_spec : {M : Type 1} → statement M
+count_at_spec = tie.close (tie.spec (λ c κs. search rules) (λ c. search rules) (λ c κs. search rules) (λ c. search rules) (λ c. search rules) returns)

@@ -10,7 +10,7 @@ returns c =
     let low = c.before in
     let s = low.before.before in
     let held = two-more s.args.sheet.now 2 s.args.at (omega (arith, s.requires)) in
-    (omega (arith, held, low.two_at.ensures.0, c.two-at2.ensures.0), omega (arith, low.two_at.ensures.1, c.two-at2.ensures.1))
+    (omega (arith, held, low.two_at.ensures.0, c.two_at-2.ensures.0), omega (arith, low.two_at.ensures.1, c.two_at-2.ensures.1))
 
-pub four-at-spec : {M : Type 1} → statement M
-four-at-spec = tie.close (tie.spec (λ c κs. search rules) (λ c. search rules) (λ c κs. search rules) (λ c. search rules) (λ c. search rules) returns)
+pub four_at_spec : {M : Type 1} → statement M
+four_at_spec = tie.close (tie.spec (λ c κs. search rules) (λ c. search rules) (λ c κs. search rules) (λ c. search rules) (λ c. search rules) returns)

@@ -24,47 +24,47 @@ store-none : (l : List ℕ) (at i rest : ℕ) → i ≡ 8 → sets l (at + i) (l
 unfolding low_bytes
 store-none l at i rest h = rw h refl
 
-abbrev invariant-loop : tie.invariant-loop
+abbrev invariant-loop : tie.invariant-loop-i
 invariant-loop sheet₀ at n rest₀ i₀ sheet rest i =
     (i ≤ 8) × (sets sheet (at + i) (low_bytes (8 - i) rest) ≡ sets sheet₀ at (low_bytes 8 n)) × (length sheet ≡ length sheet₀)
 
-abbrev decreases-loop : tie.decreases-loop
+abbrev decreases-loop : tie.decreases-loop-i
 decreases-loop sheet₀ at n rest₀ i₀ sheet rest i = 8 - i
 
-loop-holds : tie.Need-loop-init invariant-loop decreases-loop
+loop-holds : tie.Need-loop-i-init invariant-loop decreases-loop
 loop-holds c = (omega arith, ap (λ (k : ℕ). sets c.args.sheet.now k (low_bytes 8 c.args.n)) (add-zero c.args.at), refl)
 
-cast-sheet : tie.Need-overflow-cast-sheet invariant-loop decreases-loop
+cast-sheet : tie.Need-overflow_cast-sheet invariant-loop decreases-loop
 cast-sheet c = omega arith
 
-add-sheet : tie.Need-overflow-add-sheet invariant-loop decreases-loop
+add-sheet : tie.Need-overflow_add-sheet invariant-loop decreases-loop
 add-sheet c = omega arith
 
-slice-write-sheet : tie.Need-slice-write-sheet invariant-loop decreases-loop
-slice-write-sheet c = omega arith
+slice_write-sheet : tie.Need-bounds-sheet-at invariant-loop decreases-loop
+slice_write-sheet c = omega arith
 
-add-i : tie.Need-overflow-add-i invariant-loop decreases-loop
+add-i : tie.Need-overflow_add-i invariant-loop decreases-loop
 add-i c = omega arith
 
-loop-less : tie.Need-loop-smaller invariant-loop decreases-loop
+loop-less : tie.Need-loop-i-smaller invariant-loop decreases-loop
 loop-less c = omega arith
 
-loop-again : tie.Need-loop-preserved invariant-loop decreases-loop
+loop-again : tie.Need-loop-i-preserved invariant-loop decreases-loop
 loop-again c =
-    let loop = c.before.loop in
+    let loop = c.before.loop-i in
     (omega arith, store-one loop.sheet c.before.before.args.at loop.i loop.rest (omega arith) ∙ loop.invariant.1, simp length-set loop.invariant.2)
 
-same_length : tie.Need-same-length invariant-loop decreases-loop
-same_length c = c.before.loop.invariant.2
+same_length : tie.Need-shape_of-sheet invariant-loop decreases-loop
+same_length c = c.before.loop-i.invariant.2
 
 returns : tie.Need-returns invariant-loop decreases-loop
 unfolding low_bytes
 returns c =
-    let loop = c.before.loop in
+    let loop = c.before.loop-i in
     sym (store-none loop.sheet c.before.before.args.at loop.i loop.rest (omega arith)) ∙ loop.invariant.1
 
-pub put-count-spec : {M : Type 1} → statement M
-put-count-spec =
+pub put_count_spec : {M : Type 1} → statement M
+put_count_spec =
     tie.close
     (tie.spec
     invariant-loop
@@ -72,7 +72,7 @@ put-count-spec =
     loop-holds
     cast-sheet
     add-sheet
-    slice-write-sheet
+    slice_write-sheet
     add-i
     loop-less
     loop-again

@@ -12,10 +12,10 @@ returns c i =
     let first = second.before in
     record {
       right = first.count_at.ensures i;
-      repeated = second.count-at2.ensures i;
-      wrong = third.count-at3.ensures i;
-      missing = c.count-at4.ensures i;
+      repeated = second.count_at-2.ensures i;
+      wrong = third.count_at-3.ensures i;
+      missing = c.count_at-4.ensures i;
     }
 
-pub tally-in-spec : {M : Type 1} → statement M
-tally-in-spec = tie.close (tie.spec (λ c κs. search rules) (λ c κs. search rules) (λ c κs. search rules) (λ c κs. search rules) returns)
+pub tally_in_spec : {M : Type 1} → statement M
+tally_in_spec = tie.close (tie.spec (λ c κs. search rules) (λ c κs. search rules) (λ c κs. search rules) (λ c κs. search rules) returns)

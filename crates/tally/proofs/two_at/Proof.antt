@@ -11,11 +11,11 @@ returns c =
     let s = low.before.before.before in
     let held = two_bytes_lem s.args.sheet.now s.args.at s.requires in
     let first = low.wide.ensures in
-    let second = c.wide2.ensures in
+    let second = c.wide-2.ensures in
     (omega (arith, held, first.0, second.0), omega (arith, first.1, second.1))
 
-pub two-at-spec : {M : Type 1} → statement M
-two-at-spec =
+pub two_at_spec : {M : Type 1} → statement M
+two_at_spec =
     tie.close
     (tie.spec
     (λ c. search rules)
