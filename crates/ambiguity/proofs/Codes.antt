@@ -60,7 +60,7 @@ every_of : (ℕ → Bool) → Word → Bool
 every_of t [] = true
 every_of t (b ∷ w) = t b && every_of t w
 
-every_true : (t : ℕ → Bool) {w : Word} {b : ℕ} → every_of t w ≡ true → Memᴰ b w → t b ≡ true
+every_true : (t : ℕ → Bool) {b : ℕ} {w : Word} → every_of t w ≡ true → Memᴰ b w → t b ≡ true
 unfolding every_of
 every_true t h (Memᴰ.head {x = x} {xs = w} e) = rw e (both_true (t x) (every_of t w) h).0
 every_true t h (Memᴰ.tail {x = x} {xs = w} m) = every_true t (both_true (t x) (every_of t w) h).1 m

@@ -39,12 +39,12 @@ module _ (p : Word → Bool) where
       go ih (inl e) = (v, Memᴰ.head refl, e)
       go ih (inr e) = let r = ih e in (r.0, Memᴰ.tail r.1, r.2)
 
-  of-some-is : {l : List Word} {w : Word} → Memᴰ w l → p w ≡ true → of_some p l ≡ true
+  of-some-is : {w : Word} {l : List Word} → Memᴰ w l → p w ≡ true → of_some p l ≡ true
   unfolding of_some
   of-some-is (Memᴰ.head {x = v} {xs = l} e) h = left_is (p v) (of_some p l) (rw e at h)
   of-some-is (Memᴰ.tail {x = v} {xs = l} m) h = right_is (p v) (of_some p l) (of-some-is m h)
 
-  of-every-true : {l : List Word} {w : Word} → of_every p l ≡ true → Memᴰ w l → p w ≡ true
+  of-every-true : {w : Word} {l : List Word} → of_every p l ≡ true → Memᴰ w l → p w ≡ true
   unfolding of_every
   of-every-true h (Memᴰ.head {x = v} {xs = l} e) = rw e (both_true (p v) (of_every p l) h).0
   of-every-true h (Memᴰ.tail {x = v} {xs = l} m) = of-every-true (both_true (p v) (of_every p l) h).1 m

@@ -5,7 +5,7 @@ use Rattle.audit_left.proofs.left_known.Statement.{statement}
 use Rattle.audit_left.proofs.left_known.Tie as tie
 
 returns : tie.Need-returns
-returns c = (refl, refl, c.stands-again.ensures)
+returns c = (refl, refl, c.stands_again.ensures)
 
-pub left-known-spec : {M : Type 1} → statement M
-left-known-spec = tie.close (tie.spec (λ c κs. search rules) returns)
+pub left_known_spec : {M : Type 1} → statement M
+left_known_spec = tie.close (tie.spec (λ c κs. search rules) returns)

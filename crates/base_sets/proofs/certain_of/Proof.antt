@@ -7,11 +7,11 @@ use borrow.Author.Tests.{eq-eqb, ne_eqb}
 use Rattle.base_sets.proofs.certain_of.Statement.{statement}
 use Rattle.base_sets.proofs.certain_of.Tie as tie
 
-returns : tie.Need-returns
-returns c = let m = c.before.args.set in sym (ap (λ (t : Bool). cond t m 0) (eq-eqb (ones m) 1 (omega (arith, c.if1.true))))
+returns : tie.Need-returns-then-set-eq1
+returns c = let m = c.before.args.set in sym (ap (λ (t : Bool). cond t m 0) (eq-eqb (ones m) 1 (omega (arith, c.if-set-eq1.true))))
 
-returns-2 : tie.Need-returns-2
-returns-2 c = let m = c.before.args.set in sym (ap (λ (t : Bool). cond t m 0) (ne_eqb (ones m) 1 λ h. omega (arith, c.if1.false)))
+returns-2 : tie.Need-returns-else-set-eq1
+returns-2 c = let m = c.before.args.set in sym (ap (λ (t : Bool). cond t m 0) (ne_eqb (ones m) 1 λ h. omega (arith, c.if-set-eq1.false)))
 
-pub certain-of-spec : {M : Type 1} → statement M
-certain-of-spec = tie.close (tie.spec returns returns-2)
+pub certain_of_spec : {M : Type 1} → statement M
+certain_of_spec = tie.close (tie.spec returns returns-2)

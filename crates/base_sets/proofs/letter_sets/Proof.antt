@@ -10,5 +10,5 @@ returns : tie.Need-returns
 unfolding letter_sets numbers_from codes bases_in bases_of bit_of four_bits set_of
 returns c = refl
 
-pub letter-sets-spec : {M : Type 1} → statement M
-letter-sets-spec = tie.close (tie.spec returns)
+pub letter_sets_spec : {M : Type 1} → statement M
+letter_sets_spec = tie.close (tie.spec returns)

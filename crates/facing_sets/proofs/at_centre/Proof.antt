@@ -4,49 +4,38 @@ use Rattle.facing_sets.proofs.Search.{no-radius, radius-within, certain-centre, 
 use Rattle.facing_sets.proofs.at_centre.Statement.{statement}
 use Rattle.facing_sets.proofs.at_centre.Tie as tie
 
--- the entry, from behind the search for every choice
-abbrev entry : tie.After-max → tie.Start
-entry c = c.before.before.before.before
-
-maximal-radius-requires : tie.Need-maximal-radius-requires
-maximal-radius-requires c κs =
-    let start = c.before.before in
-    let centre = certain-centre _ _ _ _ _ start.requires.0 start.requires.1 in
+maximal_radius-requires : tie.Need-maximal_radius-k-requires
+maximal_radius-requires c κs =
+    let centre = certain-centre _ _ _ _ _ c.requires.0 c.requires.1 in
     (centre, no-radius _ _ _ _ centre)
 
-returns : tie.Need-returns
+returns : tie.Need-returns-then-width-room
 returns c =
-    let found = c.before.before in
-    let start = entry found in
-    better-without _ _ _ _ _ start.pre.0 start.pre.1 _ start.pre.2 _ _ found.before.maximal-radius.ensures found.max.ensures
-    c.if1.true
+    better-without _ _ _ _ _ c.requires.0 c.requires.1 _ c.requires.2 _ _ c.maximal_radius-k.ensures c.max-every.ensures
+    c.if-width-room.true
 
-maximal-radius-requires-2 : tie.Need-maximal-radius-requires-2
-maximal-radius-requires-2 c κs =
-    let found = c.before.before in
-    let start = entry found in
-    (start.pre.1, radius-within _ _ _ _ _ start.pre.0 found.before.maximal-radius.ensures.radius)
+maximal_radius-requires-2 : tie.Need-maximal_radius-m-requires
+maximal_radius-requires-2 c κs =
+    (c.requires.1, radius-within _ _ _ _ _ c.requires.0 c.maximal_radius-k.ensures.radius)
 
-returns-2 : tie.Need-returns-2
+returns-2 : tie.Need-returns
 returns-2 c =
-    let found = c.before.before.before.before in
-    let start = entry found in
-    better-with _ _ _ _ _ start.pre.0 start.pre.1 _ start.pre.2 _ _ found.before.maximal-radius.ensures found.max.ensures _ _
-    c.before.maximal-radius2.ensures c.max2.ensures
+    better-with _ _ _ _ _ c.requires.0 c.requires.1 _ c.requires.2 _ _ c.maximal_radius-k.ensures c.max-every.ensures _ _
+    c.maximal_radius-m.ensures c.max.ensures
 
-pub at-centre-spec : {M : Type 1} → statement M
-at-centre-spec =
+pub at_centre_spec : {M : Type 1} → statement M
+at_centre_spec =
     tie.close
     (tie.spec
     (λ c. search rules)
-    maximal-radius-requires
+    maximal_radius-requires
     (λ c. search rules)
     (λ c. search rules)
     (λ c κs. search rules)
     (λ c. search rules)
     (λ c. search rules)
     returns
-    maximal-radius-requires-2
+    maximal_radius-requires-2
     (λ c. search rules)
     (λ c. search rules)
     (λ c κs. search rules)

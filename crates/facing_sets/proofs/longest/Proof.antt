@@ -8,60 +8,48 @@ use Rattle.facing_sets.proofs.Search.{Passed, none_passed, no-best, turned, fini
 use Rattle.facing_sets.proofs.longest.Statement.{statement}
 use Rattle.facing_sets.proofs.longest.Tie as tie
 
-abbrev invariant-loop : tie.invariant-loop
+abbrev invariant-loop : tie.invariant-loop-best
 invariant-loop sets certain n best₀ t₀ best t = (t ≤ n) × Best sets certain best × Passed sets t best.some × Passed certain t best.every
 
-abbrev decreases-loop : tie.decreases-loop
+abbrev decreases-loop : tie.decreases-loop-best
 decreases-loop sets certain n best₀ t₀ best t = n - t
 
--- the entry, from the loop; and the loop, from the test that another turn comes
-abbrev entry : tie.At-loop invariant-loop decreases-loop → tie.Start invariant-loop decreases-loop
-entry c = c.before.before.before
-
-abbrev at-loop : tie.Then1 invariant-loop decreases-loop → tie.At-loop invariant-loop decreases-loop
-at-loop c = c.before.before
-
-loop-holds : tie.Need-loop-init invariant-loop decreases-loop
+loop-holds : tie.Need-loop-best-init invariant-loop decreases-loop
 loop-holds c = (omega arith, no-best _ _, none_passed _ 0, none_passed _ 0)
 
-at-centre-requires : tie.Need-at-centre-requires invariant-loop decreases-loop
-at-centre-requires c κs =
-    let turn = at-loop c in
-    let most = turn.loop.inv.0 in (
-      (entry turn).pre.0,
+at_centre-requires : tie.Need-at_centre-best-requires invariant-loop decreases-loop
+at_centre-requires c κs =
+    let most = c.loop-best.invariant.0 in (
+      c.requires.0,
       record { narrow = omega arith; wide = omega arith; left-room = omega arith; right-room = omega arith; all_room = λ k l r. omega arith },
-      turn.loop.inv.1,
+      c.loop-best.invariant.1,
     )
 
-at-centre-requires-2 : tie.Need-at-centre-requires-2 invariant-loop decreases-loop
-at-centre-requires-2 c κs =
-    let turn = at-loop c.before in
-    let most = turn.loop.inv.0 in (
-      (entry turn).pre.0,
+at_centre-requires-2 : tie.Need-at_centre-best-requires-in-loop-best invariant-loop decreases-loop
+at_centre-requires-2 c κs =
+    let most = c.loop-best.invariant.0 in (
+      c.requires.0,
       record { narrow = omega arith; wide = omega arith; left-room = omega arith; right-room = omega arith; all_room = λ k l r. omega arith },
-      c.at-centre.ensures.best,
+      c.at_centre-best.ensures.best,
     )
 
-loop-again : tie.Need-loop-preserved invariant-loop decreases-loop
+loop-again : tie.Need-loop-best-preserved invariant-loop decreases-loop
 loop-again c =
-    let first = c.before in
-    let turn = at-loop first.before in
-    let at = turn.loop in
-    let below = first.before.if1.true in
+    let at = c.loop-best in
+    let below = c.loop-best-test.true in
     let passed =
-    turned _ _ (entry turn).pre.0 at.t _ _ at.best _ _ (omega (arith, below)) (omega (arith, below)) (omega (arith, below))
-    (at.inv.2, at.inv.3) first.at-centre.ensures c.at-centre2.ensures
+    turned _ _ c.requires.0 at.t _ _ at.best _ _ (omega (arith, below)) (omega (arith, below)) (omega (arith, below))
+    (at.invariant.2, at.invariant.3) c.at_centre-best.ensures c.at_centre-best-in-loop-best.ensures
     in
-    (omega (arith, below), c.at-centre2.ensures.best, passed.0, passed.1)
+    (omega (arith, below), c.at_centre-best-in-loop-best.ensures.best, passed.0, passed.1)
 
 returns : tie.Need-returns invariant-loop decreases-loop
 returns c =
-    let turn = c.before.before in
-    let at = turn.loop in
-    finished _ _ (entry turn).requires.0 at.t at.best (omega (arith, c.if1.false)) at.invariant.1 at.invariant.2 at.invariant.3
+    let at = c.loop-best in
+    finished _ _ c.requires.0 at.t at.best (omega (arith, c.loop-best-test.false)) at.invariant.1 at.invariant.2 at.invariant.3
 
-pub longest-spec : {M : Type 1} → statement M
-longest-spec =
+pub longest_spec : {M : Type 1} → statement M
+longest_spec =
     tie.close
     (tie.spec
     invariant-loop
@@ -71,10 +59,10 @@ longest-spec =
     (λ c. search rules)
     (λ c. search rules)
     (λ c. search rules)
-    at-centre-requires
+    at_centre-requires
     (λ c. search rules)
     (λ c. search rules)
-    at-centre-requires-2
+    at_centre-requires-2
     (λ c. search rules)
     (λ c. search rules)
     loop-again

@@ -8,35 +8,29 @@ use Rattle.facing_sets.proofs.Search.{more-radius, no_more}
 use Rattle.facing_sets.proofs.maximal_radius.Statement.{statement}
 use Rattle.facing_sets.proofs.maximal_radius.Tie as tie
 
-abbrev invariant-loop : tie.invariant-loop
+abbrev invariant-loop : tie.invariant-loop-k
 invariant-loop sets left right room known k₀ k = (known ≤ k) × Radius sets left right k
 
-abbrev decreases-loop : tie.decreases-loop
+abbrev decreases-loop : tie.decreases-loop-k
 decreases-loop sets left right room known k₀ k = room - k
 
--- the entry, from the loop
-abbrev entry : tie.At-loop invariant-loop decreases-loop → tie.Start invariant-loop decreases-loop
-entry c = c.before
-
-returns : tie.Need-returns invariant-loop decreases-loop
+returns : tie.Need-returns-then-sets-left-eq0 invariant-loop decreases-loop
 returns c =
-    let turn = c.before.before.before.before in
-    no_more _ _ _ _ (entry turn).requires.0 _ _ turn.loop.invariant.0 turn.loop.invariant.1 λ l. c.if1.true
+    no_more _ _ _ _ c.requires.0 _ _ c.loop-k.invariant.0 c.loop-k.invariant.1 λ l. c.if-sets-left-eq0.true
 
-loop-again : tie.Need-loop-preserved invariant-loop decreases-loop
-loop-again c =
-    let turn = c.before.before.before.before in (
-      omega (arith, turn.loop.invariant.0),
-      more-radius _ _ _ _ (entry turn).requires.0 _ turn.loop.invariant.1 c.before.before.before.loop-test.true c.if1.false,
-    )
+loop-again : tie.Need-loop-k-preserved invariant-loop decreases-loop
+loop-again c = (
+  omega (arith, c.loop-k.invariant.0),
+  more-radius _ _ _ _ c.requires.0 _ c.loop-k.invariant.1 c.loop-k-test.true c.if-sets-left-eq0.false,
+)
 
-returns-2 : tie.Need-returns-2 invariant-loop decreases-loop
+returns-2 : tie.Need-returns invariant-loop decreases-loop
 returns-2 c =
-    let at = c.before.loop in
-    no_more _ _ _ _ (entry c.before).pre.0 _ _ at.invariant.0 at.invariant.1 λ l. absurd (omega (arith, c.loop-test.false))
+    let at = c.loop-k in
+    no_more _ _ _ _ c.requires.0 _ _ at.invariant.0 at.invariant.1 λ l. absurd (omega (arith, c.loop-k-test.false))
 
-pub maximal-radius-spec : {M : Type 1} → statement M
-maximal-radius-spec =
+pub maximal_radius_spec : {M : Type 1} → statement M
+maximal_radius_spec =
     tie.close
     (tie.spec
     invariant-loop

@@ -8,17 +8,17 @@ use Rattle.freeing.proofs.leaf_of.Tie as tie
 
 returns : tie.Need-returns
 returns c =
-    let n = c.before.before.before.count.ensures.0 in
+    let n = c.before.before.before.count-last.ensures.0 in
     record {
-      inner-is = c.before.before.inner-of.ensures.0;
-      outer-is = c.before.before.before.before.outer-of.ensures.0;
-      rank_is = c.before.rank-of.ensures.0;
+      inner-is = c.before.before.inner_of.ensures.0;
+      outer-is = c.before.before.before.before.outer_of-outer.ensures.0;
+      rank_is = c.before.rank_of.ensures.0;
       last-is = ap (λ (k : ℕ). k - 1) n;
-      moved-is = c.order-of.ensures.0 ∙ ap (λ (k : ℕ). order_in c.before.before.before.before.before.before.args.b.now (k - 1)) n;
+      moved-is = c.order_of.ensures.0 ∙ ap (λ (k : ℕ). order_in c.before.before.before.before.before.before.args.b.now (k - 1)) n;
     }
 
-pub leaf-of-spec : {M : Type 1} → statement M
-leaf-of-spec =
+pub leaf_of_spec : {M : Type 1} → statement M
+leaf_of_spec =
     tie.close
     (tie.spec (λ c κs. search rules) (λ c κs. search rules) (λ c. search rules) (λ c κs. search rules) (λ c. search rules) (λ c κs. search rules)
     (λ c κs. search rules) returns)

@@ -14,29 +14,29 @@ use Rattle.growth.proofs.Growing.{framed, link-single, link-stepped}
 use Rattle.growth.proofs.link_around.Statement.{statement}
 use Rattle.growth.proofs.link_around.Tie as tie
 
-returns : tie.Need-returns
+returns : tie.Need-returns-then-u-eq-IMAGINARY
 returns c =
     let s = c.before.before in
-    link-single s.requires.0 (end_of s.args.side) s.args.d s.args.u s.requires.1.1.0 s.requires.1.1.1 c.if1.true
+    link-single s.requires.0 (end_of s.args.side) s.args.d s.args.u s.requires.1.1.0 s.requires.1.1.1 c.if-u-eq-IMAGINARY.true
 
-link-of-requires : tie.Need-link-of-requires
-link-of-requires c κs = used-fits c.before.before.before.requires.0 c.before.before.before.args.u c.before.before.before.requires.1.1.1.0
+link_of-requires : tie.Need-link_of-start-requires
+link_of-requires c κs = used-fits c.before.before.before.requires.0 c.before.before.before.args.u c.before.before.before.requires.1.1.1.0
 
 step-requires : tie.Need-step-requires
 step-requires c κs =
     let s = c.before.before.before.before in
     let g = s.requires.0 in
-    let f = c.before.frame-of in (
+    let f = c.before.frame_of-f in (
       framed-within f.ensures g.sized f.result.n (omega (arith, f.ensures.size_is)),
-      (rw c.link-of.ensures.0 (good-chain g (link_in s.args.b.now s.args.u) ((covers g).link-is s.args.u s.requires.1.1.1.0).0), s.requires.1.0 ∙ sym (framed-rule f.ensures s.args.d)),
+      (rw c.link_of-start.ensures.0 (good-chain g (link_in s.args.b.now s.args.u) ((covers g).link-is s.args.u s.requires.1.1.1.0).0), s.requires.1.0 ∙ sym (framed-rule f.ensures s.args.d)),
     )
 
-returns-2 : tie.Need-returns-2
+returns-2 : tie.Need-returns
 returns-2 c =
     let s = c.before.before.before.before.before in
     let a = s.args in
-    link-stepped s.requires.0 (end_of a.side) a.d a.u s.requires.1.1.0 s.requires.1.1.1 c.before.before.before.if1.false c.step.result
-    (framed c.before.before.frame-of.ensures a.side a.d c.before.link-of.ensures.0 (λ (t : Word) (k want start : ℕ). Stepped a.b.now t k a.d want start c.step.result) c.step.ensures)
+    link-stepped s.requires.0 (end_of a.side) a.d a.u s.requires.1.1.0 s.requires.1.1.1 c.before.before.before.if-u-eq-IMAGINARY.false c.step.result
+    (framed c.before.before.frame_of-f.ensures a.side a.d c.before.link_of-start.ensures.0 (λ (t : Word) (k want start : ℕ). Stepped a.b.now t k a.d want start c.step.result) c.step.ensures)
 
-pub link-around-spec : {M : Type 1} → statement M
-link-around-spec = tie.close (tie.spec returns (λ c κs. search rules) link-of-requires step-requires returns-2)
+pub link_around_spec : {M : Type 1} → statement M
+link_around_spec = tie.close (tie.spec returns (λ c κs. search rules) link_of-requires step-requires returns-2)

@@ -13,24 +13,24 @@ use Rattle.growth.proofs.Growing.{framed, met, passed}
 use Rattle.growth.proofs.meet.Statement.{statement}
 use Rattle.growth.proofs.meet.Tie as tie
 
-end-row-requires : tie.Need-end-row-requires
-end-row-requires c κs = header-fits c.before.before.requires.0.sized
+end_row-requires : tie.Need-end_row-start-requires
+end_row-requires c κs = header-fits c.before.before.requires.0.sized
 
 walk-requires : tie.Need-walk-requires
 walk-requires c κs =
     let s = c.before.before.before in
     let g = s.requires.0 in
-    let f = c.before.frame-of in
+    let f = c.before.frame_of-f in
     let e = end_of s.args.side in
-    (framed-within f.ensures g.sized f.result.n (omega (arith, f.ensures.size_is)), (rw c.end_row.ensures.0 (good-chain g (end_row s.args.b.now e) (g.ends e).used), s.requires.1 ∙ sym (framed-rule f.ensures s.args.d)))
+    (framed-within f.ensures g.sized f.result.n (omega (arith, f.ensures.size_is)), (rw c.end_row-start.ensures.0 (good-chain g (end_row s.args.b.now e) (g.ends e).used), s.requires.1 ∙ sym (framed-rule f.ensures s.args.d)))
 
 returns : tie.Need-returns
 returns c =
     let s = c.before.before.before.before in
     let a = s.args in
     let r = c.walk.result in
-    let m = framed c.before.before.frame-of.ensures a.side a.d c.before.end_row.ensures.0 (λ (t : Word) (k want start : ℕ). Meets a.b.now t k a.d want start r.passed r.met) c.walk.ensures in
+    let m = framed c.before.before.frame_of-f.ensures a.side a.d c.before.end_row-start.ensures.0 (λ (t : Word) (k want start : ℕ). Meets a.b.now t k a.d want start r.passed r.met) c.walk.ensures in
     (met s.requires.0 (end_of a.side) a.d r.passed r.met m, passed s.requires.0 (end_of a.side) a.d r.passed r.met m)
 
-pub meet-spec : {M : Type 1} → statement M
-meet-spec = tie.close (tie.spec (λ c κs. search rules) end-row-requires walk-requires returns)
+pub meet_spec : {M : Type 1} → statement M
+meet_spec = tie.close (tie.spec (λ c κs. search rules) end_row-requires walk-requires returns)

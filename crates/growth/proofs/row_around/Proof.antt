@@ -11,17 +11,17 @@ use Rattle.growth.proofs.Growing.{two-more, row-for}
 use Rattle.growth.proofs.row_around.Statement.{statement}
 use Rattle.growth.proofs.row_around.Tie as tie
 
-length-of-requires : tie.Need-length-of-requires
-length-of-requires c κs = used-fits c.before.requires.0 c.before.args.u c.before.requires.1.1.1.0
+length_of-requires : tie.Need-length_of-requires
+length_of-requires c κs = used-fits c.before.requires.0 c.before.args.u c.before.requires.1.1.1.0
 
 -- the new length
-grown : (c : tie.After-plus-two) → c.plus-two.result ≡ pred_ℤ (pos (cell c.before.before.before.args.b.now c.before.before.before.args.u 0 + 2))
+grown : (c : tie.After-plus_two-length) → c.plus_two-length.result ≡ pred_ℤ (pos (cell c.before.before.before.args.b.now c.before.before.before.args.u 0 + 2))
 unfolding length_in
 grown c =
-    let l = c.before.length-of.ensures in
-    c.plus-two.ensures (cell c.before.before.before.args.b.now c.before.before.before.args.u 0) (kept l.1 ∙ l.0)
+    let l = c.before.length_of.ensures in
+    c.plus_two-length.ensures (cell c.before.before.before.args.b.now c.before.before.before.args.u 0) (kept l.1 ∙ l.0)
 
-written : (c : tie.After-fresh) → c.fresh.result.length ≡ c.before.before.plus-two.result
+written : (c : tie.After-fresh) → c.fresh.result.length ≡ c.before.before.plus_two-length.result
 written c =
     let s = c.before.before.before.before.before in
     c.fresh.ensures.0 ∙ kept (two-more s.requires.0 (end_of s.args.side) s.args.d s.args.u s.requires.1.1.0 s.requires.1.1.1 (grown c.before.before))
@@ -30,8 +30,8 @@ returns : tie.Need-returns
 returns c =
     let s = c.before.before.before.before.before in
     let f = c.fresh.ensures in
-    row-for s.requires.0 (end_of s.args.side) s.args.d s.args.u s.requires.1.1.0 s.requires.1.1.1 c.fresh.result (written c ∙ grown c.before.before) f.1 f.2 f.3 c.before.link-around.ensures
+    row-for s.requires.0 (end_of s.args.side) s.args.d s.args.u s.requires.1.1.0 s.requires.1.1.1 c.fresh.result (written c ∙ grown c.before.before) f.1 f.2 f.3 c.before.link_around-link.ensures
 
-pub row-around-spec : {M : Type 1} → statement M
-row-around-spec =
-    tie.close (tie.spec length-of-requires (λ c κs. search rules) (λ c κs. search rules) (λ c κs. search rules) returns)
+pub row_around_spec : {M : Type 1} → statement M
+row_around_spec =
+    tie.close (tie.spec length_of-requires (λ c κs. search rules) (λ c κs. search rules) (λ c κs. search rules) returns)

@@ -8,7 +8,7 @@ returns : tie.Need-returns
 unfolding writes
 returns c = cc
 
-pub hang-spec : {M : Type 1} → statement M
-hang-spec =
+pub hang_spec : {M : Type 1} → statement M
+hang_spec =
     tie.close
     (tie.spec (λ c κs. search rules) (λ c κs. search rules) (λ c. search rules) (λ c κs. search rules) (λ c. search rules) returns)

@@ -10,21 +10,21 @@ use Rattle.store.proofs.Ends.{joined}
 use Rattle.joining.proofs.join.Statement.{statement}
 use Rattle.joining.proofs.join.Tie as tie
 
-returns : tie.Need-returns
+returns : tie.Need-returns-in-Left
 returns c =
-    let a = c.before.before.before.before.before.before.before.args in
-    rw c.before.before.before.before.enum_told.given.1
-    (ap (λ b. set b a.base a.c) c.before.before.move-right.ensures ∙ joined a.b.now a.base a.n at_left a.c (omega arith))
+    let a = c.before.before.before.before.before.before.args in
+    rw c.before.before.before.before.in-Left.is
+    (ap (λ b. set b a.base a.c) c.before.before.move_right.ensures ∙ joined a.b.now a.base a.n at_left a.c (omega arith))
 
-returns-2 : tie.Need-returns-2
+returns-2 : tie.Need-returns-in-Right
 returns-2 c =
-    let a = c.before.before.before.args in
-    rw c.enum-told2.given.1
+    let a = c.before.before.args in
+    rw c.in-Right.is
     (ap (λ b. set b (a.base + a.n) a.c) (sym (sets_same a.b.now a.base a.n (omega arith)))
     ∙ joined a.b.now a.base a.n at_right a.c (omega arith))
 
-pub join-spec : {M : Type 1} → statement M
-join-spec =
+pub join_spec : {M : Type 1} → statement M
+join_spec =
     tie.close
     (tie.spec (λ c. search rules) (λ c κs. search rules) (λ c. search rules) (λ c. search rules) (λ c. search rules) (λ c. search rules)
     (λ c. search rules) returns (λ c. search rules) returns-2)

@@ -10,19 +10,19 @@ use Rattle.store.proofs.Ends.{parted}
 use Rattle.joining.proofs.leave.Statement.{statement}
 use Rattle.joining.proofs.leave.Tie as tie
 
-returns : tie.Need-returns
+returns : tie.Need-returns-in-Left
 returns c =
-    let s = c.before.before.before.before.before.before.before in
+    let s = c.before.before.before.before.before.before in
     let a = s.args in
-    rw c.before.before.before.before.enum_told.given.1
-    (ap (λ b. set b (a.base + (a.n - 1)) 0) c.before.before.move-left.ensures
+    rw c.before.before.before.before.in-Left.is
+    (ap (λ b. set b (a.base + (a.n - 1)) 0) c.before.before.move_left.ensures
     ∙ parted a.b.now a.base a.n at_left s.requires.0 s.requires.1)
 
-returns-2 : tie.Need-returns-2
+returns-2 : tie.Need-returns-in-Right
 returns-2 c =
-    let s = c.before.before.before in
+    let s = c.before.before in
     let a = s.args in
-    rw c.enum-told2.given.1
+    rw c.in-Right.is
     (ap (λ b. set b (a.base + (a.n - 1)) 0) (sym (sets_same a.b.now a.base (a.n - 1) (omega arith)))
     ∙ parted a.b.now a.base a.n at_right s.requires.0 s.requires.1)
 

@@ -6,18 +6,18 @@ use Rattle.store.proofs.Ends.{part-letter}
 use Rattle.joining.proofs.letter_at.Statement.{statement}
 use Rattle.joining.proofs.letter_at.Tie as tie
 
-returns : tie.Need-returns
+returns : tie.Need-returns-in-Left
 returns c =
-    let s = c.before.before.before in
-    rw c.before.enum_told.given.1 (sym (part-letter s.args.b.now s.args.base s.args.n s.requires.0 at_left s.requires.1))
+    let s = c.before.before in
+    rw c.before.in-Left.is (sym (part-letter s.args.b.now s.args.base s.args.n s.requires.0 at_left s.requires.1))
 
-returns-2 : tie.Need-returns-2
+returns-2 : tie.Need-returns-in-Right
 returns-2 c =
-    let s = c.before.before.before in
-    rw c.before.enum-told2.given.1 (sym (part-letter s.args.b.now s.args.base s.args.n s.requires.0 at_right s.requires.1))
+    let s = c.before.before in
+    rw c.before.in-Right.is (sym (part-letter s.args.b.now s.args.base s.args.n s.requires.0 at_right s.requires.1))
 
-pub letter-at-spec : {M : Type 1} → statement M
-letter-at-spec =
+pub letter_at_spec : {M : Type 1} → statement M
+letter_at_spec =
     tie.close
     (tie.spec (λ c. search rules) (λ c. search rules) (λ c. search rules) (λ c. search rules) (λ c. search rules) (λ c. search rules)
     returns returns-2)

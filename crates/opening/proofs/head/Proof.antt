@@ -5,11 +5,11 @@ use Rattle.store.specs.Writes.{writes}
 use Rattle.opening.proofs.head.Statement.{statement}
 use Rattle.opening.proofs.head.Tie as tie
 
-put-length-requires : tie.Need-put-length-requires
-put-length-requires c κs = (search rules, record { number = 0; small = search rules; is = refl })
+put_length-requires : tie.Need-put_length-requires
+put_length-requires c κs = (search rules, record { number = 0; small = search rules; is = refl })
 
-put-length-requires-2 : tie.Need-put-length-requires-2
-put-length-requires-2 c κs = (search rules, record { number = 1; small = search rules; is = refl })
+put_length-requires-2 : tie.Need-put_length-requires-2
+put_length-requires-2 c κs = (search rules, record { number = 1; small = search rules; is = refl })
 
 returns : tie.Need-returns
 unfolding writes
@@ -18,4 +18,4 @@ returns c = cc
 pub head_spec : {M : Type 1} → statement M
 head_spec =
     tie.close
-    (tie.spec (λ c κs. search rules) (λ c κs. search rules) put-length-requires put-length-requires-2 (λ c κs. search rules) (λ c κs. search rules) (λ c. search rules) returns)
+    (tie.spec (λ c κs. search rules) (λ c κs. search rules) put_length-requires put_length-requires-2 (λ c κs. search rules) (λ c κs. search rules) (λ c. search rules) returns)

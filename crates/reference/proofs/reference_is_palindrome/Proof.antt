@@ -5,7 +5,7 @@ use Rattle.reference.proofs.reference_is_palindrome.Statement.{statement}
 use Rattle.reference.proofs.reference_is_palindrome.Tie as tie
 
 returns : tie.Need-returns
-returns c = number-of c.number.ensures c.before.is-palindrome.ensures
+returns c = number-of c.number.ensures c.before.is_palindrome.ensures
 
-pub reference-is-palindrome-spec : {M : Type 1} → statement M
-reference-is-palindrome-spec = tie.close (tie.spec (λ c κs. search rules) (λ c κs. search rules) returns)
+pub reference_is_palindrome_spec : {M : Type 1} → statement M
+reference_is_palindrome_spec = tie.close (tie.spec (λ c κs. search rules) (λ c κs. search rules) returns)

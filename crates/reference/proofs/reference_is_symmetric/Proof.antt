@@ -5,7 +5,7 @@ use Rattle.reference.proofs.reference_is_symmetric.Statement.{statement}
 use Rattle.reference.proofs.reference_is_symmetric.Tie as tie
 
 returns : tie.Need-returns
-returns c = number-of c.number.ensures c.before.is-symmetric.ensures
+returns c = number-of c.number.ensures c.before.is_symmetric.ensures
 
-pub reference-is-symmetric-spec : {M : Type 1} → statement M
-reference-is-symmetric-spec = tie.close (tie.spec (λ c κs. search rules) (λ c κs. search rules) returns)
+pub reference_is_symmetric_spec : {M : Type 1} → statement M
+reference_is_symmetric_spec = tie.close (tie.spec (λ c κs. search rules) (λ c κs. search rules) returns)

@@ -7,5 +7,5 @@ use Rattle.reference.proofs.reference_stands.Tie as tie
 returns : tie.Need-returns
 returns c = number-of c.number.ensures c.before.stands.ensures
 
-pub reference-stands-spec : {M : Type 1} → statement M
-reference-stands-spec = tie.close (tie.spec (λ c κs. search rules) (λ c κs. search rules) returns)
+pub reference_stands_spec : {M : Type 1} → statement M
+reference_stands_spec = tie.close (tie.spec (λ c κs. search rules) (λ c κs. search rules) returns)

@@ -5,7 +5,7 @@ use Rattle.reference.proofs.reference_stands_once.Statement.{statement}
 use Rattle.reference.proofs.reference_stands_once.Tie as tie
 
 returns : tie.Need-returns
-returns c = number-of c.number.ensures c.before.stands-once.ensures
+returns c = number-of c.number.ensures c.before.stands_once.ensures
 
-pub reference-stands-once-spec : {M : Type 1} → statement M
-reference-stands-once-spec = tie.close (tie.spec (λ c κs. search rules) (λ c κs. search rules) returns)
+pub reference_stands_once_spec : {M : Type 1} → statement M
+reference_stands_once_spec = tie.close (tie.spec (λ c κs. search rules) (λ c κs. search rules) returns)

@@ -7,5 +7,5 @@ use Rattle.reference.proofs.reference_starts_with.Tie as tie
 returns : tie.Need-returns
 returns c = number-of c.number.ensures c.before.starts_with.ensures
 
-pub reference-starts-with-spec : {M : Type 1} → statement M
-reference-starts-with-spec = tie.close (tie.spec (λ c κs. search rules) (λ c κs. search rules) returns)
+pub reference_starts_with_spec : {M : Type 1} → statement M
+reference_starts_with_spec = tie.close (tie.spec (λ c κs. search rules) (λ c κs. search rules) returns)

@@ -6,14 +6,14 @@ use Rattle.reference_ends.proofs.AtEnds.{link-empty, link-tail}
 use Rattle.reference_ends.proofs.link_length.Statement.{statement}
 use Rattle.reference_ends.proofs.link_length.Tie as tie
 
-returns : tie.Need-returns
-returns c = sym (link-empty _ _ c.if1.true)
+returns : tie.Need-returns-then-v-eq0
+returns c = sym (link-empty _ _ c.if-v-eq0.true)
 
-returns-2 : tie.Need-returns-2
-returns-2 c = c.longest-suffix.ensures ∙ sym (ap length (link-tail _ _ c.before.before.if1.false))
+returns-2 : tie.Need-returns
+returns-2 c = c.longest_suffix.ensures ∙ sym (ap length (link-tail _ _ c.before.before.if-v-eq0.false))
 
-pub link-length-spec : {M : Type 1} → statement M
-link-length-spec =
+pub link_length_spec : {M : Type 1} → statement M
+link_length_spec =
     tie.close
     (tie.spec
     returns

@@ -11,27 +11,27 @@ use Rattle.reference_ends.proofs.AtEnds.{suffix-here, suffix-shorter, suffix-non
 use Rattle.reference_ends.proofs.longest_suffix.Statement.{statement}
 use Rattle.reference_ends.proofs.longest_suffix.Tie as tie
 
-abbrev invariant-loop : tie.invariant-loop
+abbrev invariant-loop : tie.invariant-loop-i
 invariant-loop rule s i₀ i = longest_suffix (rule_of rule) s ≡ longest_suffix (rule_of rule) (drop i s)
 
-abbrev decreases-loop : tie.decreases-loop
+abbrev decreases-loop : tie.decreases-loop-i
 decreases-loop rule s i₀ i = length s - i
 
-returns : tie.Need-returns invariant-loop decreases-loop
+returns : tie.Need-returns-then-is_symmetric invariant-loop decreases-loop
 returns c =
     let turn = c.before.before.before in
-    sym (ap length turn.before.loop.invariant ∙ suffix-here _ _ _ turn.loop-test.true (sym c.before.is-symmetric.ensures ∙ c.if1.true))
+    sym (ap length turn.before.loop-i.invariant ∙ suffix-here _ _ _ turn.loop-i-test.true (sym c.before.is_symmetric.ensures ∙ c.if-is_symmetric.true))
 
-loop-again : tie.Need-loop-preserved invariant-loop decreases-loop
+loop-again : tie.Need-loop-i-preserved invariant-loop decreases-loop
 loop-again c =
     let turn = c.before.before.before in
-    turn.before.loop.invariant ∙ suffix-shorter _ _ _ turn.loop-test.true (sym c.before.is-symmetric.ensures ∙ c.if1.false)
+    turn.before.loop-i.invariant ∙ suffix-shorter _ _ _ turn.loop-i-test.true (sym c.before.is_symmetric.ensures ∙ c.if-is_symmetric.false)
 
-returns-2 : tie.Need-returns-2 invariant-loop decreases-loop
-returns-2 c = sym (ap length (c.before.loop.invariant ∙ suffix-none _ _ _ c.loop-test.false))
+returns-2 : tie.Need-returns invariant-loop decreases-loop
+returns-2 c = sym (ap length (c.before.loop-i.invariant ∙ suffix-none _ _ _ c.loop-i-test.false))
 
-pub longest-suffix-spec : {M : Type 1} → statement M
-longest-suffix-spec =
+pub longest_suffix_spec : {M : Type 1} → statement M
+longest_suffix_spec =
     tie.close
     (tie.spec
     invariant-loop

@@ -14,31 +14,31 @@ use Rattle.reference_listing.proofs.Listing.{list_left, left-all, left-none, len
 use Rattle.reference_listing.proofs.count.Statement.{statement}
 use Rattle.reference_listing.proofs.count.Tie as tie
 
-abbrev invariant-loop : tie.invariant-loop
+abbrev invariant-loop : tie.invariant-loop-e
 invariant-loop rule s total₀ e₀ total e = (total ≤ e) × (e ≤ length s) × (count (rule_of rule) s ≡ total + length (list_left (rule_of rule) s e))
 
-abbrev decreases-loop : tie.decreases-loop
+abbrev decreases-loop : tie.decreases-loop-e
 decreases-loop rule s total₀ e₀ total e = length s - e
 
-loop-holds : tie.Need-loop-init invariant-loop decreases-loop
+loop-holds : tie.Need-loop-e-init invariant-loop decreases-loop
 unfolding count
 loop-holds c =
-    let a = c.before.before.args in
+    let a = c.args in
     (omega arith, omega arith, omega (arith, ap length (left-all (rule_of a.rule.now) a.s.now)))
 
-slice-aggregate-new-at-end : tie.Need-slice-aggregate-new-at-end invariant-loop decreases-loop
-slice-aggregate-new-at-end c = sym (length-take-le _ _ (omega arith))
+slice_aggregate-new_at_end : tie.Need-slice_bounds-new_at_end-end invariant-loop decreases-loop
+slice_aggregate-new_at_end c = sym (length-take-le _ _ (omega arith))
 
-loop-again : tie.Need-loop-preserved invariant-loop decreases-loop
+loop-again : tie.Need-loop-e-preserved invariant-loop decreases-loop
 loop-again c =
-    let q = length-left _ _ _ c.before.before.loop-test.true _ c.new-at-end.ensures in
-    let b = byte_le (ltb 0 c.new-at-end.result) in
+    let q = length-left _ _ _ c.loop-e-test.true _ c.new_at_end.ensures in
+    let b = byte_le (ltb 0 c.new_at_end.result) in
     (omega arith, omega arith, omega arith)
 
 returns : tie.Need-returns invariant-loop decreases-loop
 returns c =
-    let a = c.before.before.before.before.args in
-    omega (arith, ap length (left-none (rule_of a.rule.now) a.s.now c.before.loop.e c.loop-test.false))
+    let a = c.args in
+    omega (arith, ap length (left-none (rule_of a.rule.now) a.s.now c.loop-e.e c.loop-e-test.false))
 
 pub count_spec : {M : Type 1} → statement M
 count_spec =
@@ -48,10 +48,10 @@ count_spec =
     decreases-loop
     loop-holds
     (λ c. omega arith)
-    slice-aggregate-new-at-end
+    slice_aggregate-new_at_end
     (λ c κs. search rules)
     (λ c. search rules)
-    (λ c. omega (arith, byte_le (ltb 0 c.new-at-end.result)))
+    (λ c. omega (arith, byte_le (ltb 0 c.new_at_end.result)))
     (λ c. omega arith)
     loop-again
     returns)

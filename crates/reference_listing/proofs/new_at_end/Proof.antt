@@ -7,38 +7,38 @@ use Rattle.reference_listing.proofs.Listing.{longest-within, new_none, new-stood
 use Rattle.reference_listing.proofs.new_at_end.Statement.{statement}
 use Rattle.reference_listing.proofs.new_at_end.Tie as tie
 
-returns : tie.Need-returns
-returns c = new_none _ _ _ c.before.longest-suffix.ensures c.if1.true
+returns : tie.Need-returns-then-l-eq0
+returns c = new_none _ _ _ c.longest_suffix-l.ensures c.if-l-eq0.true
 
-sub-stands : tie.Need-overflow-sub-stands
-sub-stands c = longest-within _ _ _ c.before.longest-suffix.ensures
+sub-n : tie.Need-overflow_sub-n
+sub-n c = longest-within _ _ _ c.longest_suffix-l.ensures
 
-sub-stands-3 : tie.Need-overflow-sub-stands-3
-sub-stands-3 c = let h = longest-within _ _ _ c.before.before.longest-suffix.ensures in omega arith
+count-2 : tie.Need-slice_bounds-stands-count-2
+count-2 c = let h = longest-within _ _ _ c.longest_suffix-l.ensures in omega arith
 
-slice-aggregate-stands : tie.Need-slice-aggregate-stands
-slice-aggregate-stands c =
-    let h = longest-within _ _ _ c.before.before.before.longest-suffix.ensures in
+length-2 : tie.Need-slice_bounds-stands-length-2
+length-2 c =
+    let h = longest-within _ _ _ c.longest_suffix-l.ensures in
     sym (length-take-le _ _ (omega arith))
 
-returns-2 : tie.Need-returns-2
-returns-2 c = new-stood _ _ _ c.before.before.before.before.before.longest-suffix.ensures (sym c.before.stands.ensures ∙ c.if2.true)
+returns-2 : tie.Need-returns-then-stands
+returns-2 c = new-stood _ _ _ c.longest_suffix-l.ensures (sym c.stands.ensures ∙ c.if-stands.true)
 
-returns-3 : tie.Need-returns-3
-returns-3 c = new-found _ _ _ c.before.before.before.before.before.longest-suffix.ensures (sym c.before.stands.ensures ∙ c.if2.false)
+returns-3 : tie.Need-returns
+returns-3 c = new-found _ _ _ c.longest_suffix-l.ensures (sym c.stands.ensures ∙ c.if-stands.false)
 
-pub new-at-end-spec : {M : Type 1} → statement M
-new-at-end-spec =
+pub new_at_end_spec : {M : Type 1} → statement M
+new_at_end_spec =
     tie.close
     (tie.spec
     (λ c κs. search rules)
     returns
-    sub-stands
+    sub-n
     (λ c. search rules)
     (λ c. search rules)
     (λ c. search rules)
-    sub-stands-3
-    slice-aggregate-stands
+    count-2
+    length-2
     (λ c κs. search rules)
     returns-2
     returns-3)

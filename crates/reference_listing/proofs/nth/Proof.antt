@@ -14,55 +14,55 @@ use Rattle.reference_listing.proofs.Listing.{list_left, left-all, left-none, lef
 use Rattle.reference_listing.proofs.nth.Statement.{statement}
 use Rattle.reference_listing.proofs.nth.Tie as tie
 
-abbrev invariant-loop : tie.invariant-loop
+abbrev invariant-loop : tie.invariant-loop-e
 invariant-loop rule s k left₀ e₀ left e = (e ≤ length s) × (get_or (palindromes (rule_of rule) s) k [] ≡ get_or (list_left (rule_of rule) s e) left [])
 
-abbrev decreases-loop : tie.decreases-loop
+abbrev decreases-loop : tie.decreases-loop-e
 decreases-loop rule s k left₀ e₀ left e = length s - e
 
-loop-holds : tie.Need-loop-init invariant-loop decreases-loop
+loop-holds : tie.Need-loop-e-init invariant-loop decreases-loop
 loop-holds c =
-    let a = c.before.before.args in
+    let a = c.args in
     (omega arith, ap (λ (l : List Word). get_or l a.k []) (left-all (rule_of a.rule.now) a.s.now))
 
-slice-aggregate-new-at-end : tie.Need-slice-aggregate-new-at-end invariant-loop decreases-loop
-slice-aggregate-new-at-end c = sym (length-take-le _ _ (omega arith))
+slice_aggregate-new_at_end : tie.Need-slice_bounds-new_at_end-end invariant-loop decreases-loop
+slice_aggregate-new_at_end c = sym (length-take-le _ _ (omega arith))
 
-sub-t12 : tie.Need-overflow-sub-t12 invariant-loop decreases-loop
-sub-t12 c = new-within _ _ _ c.before.before.before.before.loop-test.true _ c.before.before.new-at-end.ensures
+sub-result : tie.Need-overflow_sub-result invariant-loop decreases-loop
+sub-result c = new-within _ _ _ c.loop-e-test.true _ c.new_at_end-l.ensures
 
-returns : tie.Need-returns invariant-loop decreases-loop
+returns : tie.Need-returns-then-left-eq0 invariant-loop decreases-loop
 returns c =
-    let turn = c.before.before.before.before in
-    ((omega arith, omega arith), nth_here _ _ _ turn.loop-test.true _ c.before.before.new-at-end.ensures _ c.before.if1.true c.if2.true ∙ sym turn.before.loop.invariant.1)
+    let turn = c in
+    ((omega arith, omega arith), nth_here _ _ _ turn.loop-e-test.true _ c.new_at_end-l.ensures _ c.if-l-ne0.true c.if-left-eq0.true ∙ sym turn.loop-e.invariant.1)
 
-loop-again : tie.Need-loop-preserved invariant-loop decreases-loop
+loop-again : tie.Need-loop-e-preserved-then-l-ne0 invariant-loop decreases-loop
 loop-again c =
-    let turn = c.before.before.before.before in
-    (omega arith, turn.before.loop.invariant.1 ∙ nth-later _ _ _ turn.loop-test.true _ c.before.before.new-at-end.ensures _ c.before.if1.true c.if2.false)
+    let turn = c in
+    (omega arith, turn.loop-e.invariant.1 ∙ nth-later _ _ _ turn.loop-e-test.true _ c.new_at_end-l.ensures _ c.if-l-ne0.true c.if-left-eq0.false)
 
-loop-again-2 : tie.Need-loop-preserved-2 invariant-loop decreases-loop
+loop-again-2 : tie.Need-loop-e-preserved invariant-loop decreases-loop
 loop-again-2 c =
-    let turn = c.before.before.before in
-    (omega arith, turn.before.loop.invariant.1 ∙ ap (λ (l : List Word). get_or l turn.before.loop.left []) (left-old _ _ _ turn.loop-test.true _ c.before.new-at-end.ensures c.if1.false))
+    let turn = c in
+    (omega arith, turn.loop-e.invariant.1 ∙ ap (λ (l : List Word). get_or l turn.loop-e.left []) (left-old _ _ _ turn.loop-e-test.true _ c.new_at_end-l.ensures c.if-l-ne0.false))
 
-returns-2 : tie.Need-returns-2 invariant-loop decreases-loop
+returns-2 : tie.Need-returns invariant-loop decreases-loop
 returns-2 c =
-    let a = c.before.before.before.before.args in
-    let l = c.before.loop in
-    ((omega arith, omega arith), sym (l.invariant.1 ∙ ap (λ (r : List Word). get_or r l.left []) (left-none (rule_of a.rule.now) a.s.now l.e c.loop-test.false)))
+    let a = c.args in
+    let l = c.loop-e in
+    ((omega arith, omega arith), sym (l.invariant.1 ∙ ap (λ (r : List Word). get_or r l.left []) (left-none (rule_of a.rule.now) a.s.now l.e c.loop-e-test.false)))
 
-pub nth-spec : {M : Type 1} → statement M
-nth-spec =
+pub nth_spec : {M : Type 1} → statement M
+nth_spec =
     tie.close
     (tie.spec
     invariant-loop
     decreases-loop
     loop-holds
     (λ c. omega arith)
-    slice-aggregate-new-at-end
+    slice_aggregate-new_at_end
     (λ c κs. search rules)
-    sub-t12
+    sub-result
     returns
     (λ c. omega arith)
     (λ c. omega arith)

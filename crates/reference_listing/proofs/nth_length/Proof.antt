@@ -8,8 +8,8 @@ use Rattle.reference_listing.proofs.nth_length.Tie as tie
 
 returns : tie.Need-returns
 returns c =
-    let w = c.before.nth.ensures in
+    let w = c.before.nth-w.ensures in
     sym (part_length _ _ _ w.0.0 w.0.1) ∙ ap length w.1
 
-pub nth-length-spec : {M : Type 1} → statement M
-nth-length-spec = tie.close (tie.spec (λ c κs. search rules) (λ c. search rules) returns)
+pub nth_length_spec : {M : Type 1} → statement M
+nth_length_spec = tie.close (tie.spec (λ c κs. search rules) (λ c. search rules) returns)

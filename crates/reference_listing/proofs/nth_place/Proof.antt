@@ -9,10 +9,10 @@ use Rattle.reference_listing.proofs.nth_place.Tie as tie
 returns : tie.Need-returns
 returns c =
     let s = c.before.before.before.before.before.args.s.now in
-    c.first-place.ensures ∙ ap (λ (w : Word). first_place w s) c.before.before.nth.ensures.1
+    c.first_place.ensures ∙ ap (λ (w : Word). first_place w s) c.before.before.nth-w.ensures.1
 
-pub nth-place-spec : {M : Type 1} → statement M
-nth-place-spec =
+pub nth_place_spec : {M : Type 1} → statement M
+nth_place_spec =
     tie.close
     (tie.spec
     (λ c κs. search rules)

@@ -13,47 +13,47 @@ use Rattle.reference_longest.proofs.Extremes.{least_with, places_of, place-all, 
 use Rattle.reference_longest.proofs.longest_place.Statement.{statement}
 use Rattle.reference_longest.proofs.longest_place.Tie as tie
 
-abbrev invariant-loop : tie.invariant-loop
+abbrev invariant-loop : tie.invariant-loop-e
 invariant-loop rule s longest found₀ best₀ e₀ found best e = (e ≤ length s) × (longest_place (rule_of rule) s ≡ least_with found best (places_of (rule_of rule) s longest e))
 
-abbrev decreases-loop : tie.decreases-loop
+abbrev decreases-loop : tie.decreases-loop-e
 decreases-loop rule s longest found₀ best₀ e₀ found best e = length s - e
 
-loop-holds : tie.Need-loop-init invariant-loop decreases-loop
-loop-holds c = (omega arith, place-all _ _ _ c.longest-length.ensures)
+loop-holds : tie.Need-loop-e-init invariant-loop decreases-loop
+loop-holds c = (omega arith, place-all _ _ _ c.longest_length-longest.ensures)
 
-slice-aggregate-new-at-end : tie.Need-slice-aggregate-new-at-end invariant-loop decreases-loop
-slice-aggregate-new-at-end c = sym (length-take-le _ _ (omega arith))
+slice_aggregate-new_at_end : tie.Need-slice_bounds-new_at_end-end invariant-loop decreases-loop
+slice_aggregate-new_at_end c = sym (length-take-le _ _ (omega arith))
 
-sub-first-place : tie.Need-overflow-sub-first-place invariant-loop decreases-loop
-sub-first-place c = new-within _ _ _ c.before.before.before.before.loop-test.true _ c.before.before.new-at-end.ensures
+sub-e : tie.Need-overflow_sub-e invariant-loop decreases-loop
+sub-e c = new-within _ _ _ c.loop-e-test.true _ c.new_at_end-l.ensures
 
-loop-again : tie.Need-loop-preserved invariant-loop decreases-loop
+loop-again : tie.Need-loop-e-preserved-then-l-longest invariant-loop decreases-loop
 loop-again c =
-    let found = c.before.before.before.before.before in
-    let turn = found.before.before in (
+    let found = c in
+    let turn = found in (
       omega arith,
-      turn.before.loop.invariant.1
-          ∙ place_here _ _ _ turn.loop-test.true _ found.new-at-end.ensures _ c.before.before.before.before.if1.true c.before.before.before.if2.true _ _ _ _ c.before.first-place.ensures c.leftmost.ensures,
+      turn.loop-e.invariant.1
+          ∙ place_here _ _ _ turn.loop-e-test.true _ found.new_at_end-l.ensures _ c.if-l-ne0.true c.if-l-longest.true _ _ _ _ c.first_place-at.ensures c.leftmost-best.ensures,
     )
 
-loop-again-2 : tie.Need-loop-preserved-2 invariant-loop decreases-loop
+loop-again-2 : tie.Need-loop-e-preserved-else-l-longest invariant-loop decreases-loop
 loop-again-2 c =
-    let found = c.before.before in
-    let turn = found.before.before in
-    (omega arith, turn.before.loop.invariant.1 ∙ ap (least_with _ _) (places-other _ _ _ turn.loop-test.true _ found.new-at-end.ensures _ c.before.if1.true c.if2.false))
+    let found = c in
+    let turn = found in
+    (omega arith, turn.loop-e.invariant.1 ∙ ap (least_with _ _) (places-other _ _ _ turn.loop-e-test.true _ found.new_at_end-l.ensures _ c.if-l-ne0.true c.if-l-longest.false))
 
-loop-again-3 : tie.Need-loop-preserved-3 invariant-loop decreases-loop
+loop-again-3 : tie.Need-loop-e-preserved invariant-loop decreases-loop
 loop-again-3 c =
-    let found = c.before in
-    let turn = found.before.before in
-    (omega arith, turn.before.loop.invariant.1 ∙ ap (least_with _ _) (places-old _ _ _ turn.loop-test.true _ found.new-at-end.ensures _ c.if1.false))
+    let found = c in
+    let turn = found in
+    (omega arith, turn.loop-e.invariant.1 ∙ ap (least_with _ _) (places-old _ _ _ turn.loop-e-test.true _ found.new_at_end-l.ensures _ c.if-l-ne0.false))
 
 returns : tie.Need-returns invariant-loop decreases-loop
-returns c = sym (c.before.loop.invariant.1 ∙ place_none _ _ _ _ c.loop-test.false _ _)
+returns c = sym (c.loop-e.invariant.1 ∙ place_none _ _ _ _ c.loop-e-test.false _ _)
 
-pub longest-place-spec : {M : Type 1} → statement M
-longest-place-spec =
+pub longest_place_spec : {M : Type 1} → statement M
+longest_place_spec =
     tie.close
     (tie.spec
     invariant-loop
@@ -61,9 +61,9 @@ longest-place-spec =
     (λ c κs. search rules)
     loop-holds
     (λ c. omega arith)
-    slice-aggregate-new-at-end
+    slice_aggregate-new_at_end
     (λ c κs. search rules)
-    sub-first-place
+    sub-e
     (λ c. omega arith)
     (λ c. omega arith)
     (λ c. omega arith)

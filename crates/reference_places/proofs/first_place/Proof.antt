@@ -10,34 +10,34 @@ use Rattle.reference_places.proofs.Pieces.{places_left, left-all, first-here, fi
 use Rattle.reference_places.proofs.first_place.Statement.{statement}
 use Rattle.reference_places.proofs.first_place.Tie as tie
 
-abbrev invariant-loop : tie.invariant-loop
+abbrev invariant-loop : tie.invariant-loop-at
 invariant-loop p s at₀ at = first_place p s ≡ first (places_left p s at)
 
-abbrev decreases-loop : tie.decreases-loop
+abbrev decreases-loop : tie.decreases-loop-at
 decreases-loop p s at₀ at = length s - at
 
-loop-holds : tie.Need-loop-init invariant-loop decreases-loop
+loop-holds : tie.Need-loop-at-init invariant-loop decreases-loop
 unfolding first_place
 loop-holds c = ap first (left-all _ _)
 
-returns : tie.Need-returns invariant-loop decreases-loop
-returns c = sym (c.before.before.before.loop.invariant ∙ first-here _ _ _ (sym c.before.starts_with.ensures ∙ c.if1.true))
+returns : tie.Need-returns-then-starts_with invariant-loop decreases-loop
+returns c = sym (c.before.before.before.loop-at.invariant ∙ first-here _ _ _ (sym c.before.starts_with.ensures ∙ c.if-starts_with.true))
 
-loop-again : tie.Need-loop-preserved invariant-loop decreases-loop
+loop-again : tie.Need-loop-at-preserved invariant-loop decreases-loop
 loop-again c =
     let turn = c.before.before in
-    turn.before.loop.invariant ∙ first-later _ _ _ turn.loop-test.true (sym c.before.starts_with.ensures ∙ c.if1.false)
+    turn.before.loop-at.invariant ∙ first-later _ _ _ turn.loop-at-test.true (sym c.before.starts_with.ensures ∙ c.if-starts_with.false)
 
-returns-2 : tie.Need-returns-2 invariant-loop decreases-loop
-returns-2 c = sym (c.before.before.before.loop.invariant ∙ first-here _ _ _ (sym c.before.starts-with2.ensures ∙ c.if2.true))
+returns-2 : tie.Need-returns-then-starts_with-2 invariant-loop decreases-loop
+returns-2 c = sym (c.before.before.before.loop-at.invariant ∙ first-here _ _ _ (sym c.before.starts_with-2.ensures ∙ c.if-starts_with-2.true))
 
-returns-3 : tie.Need-returns-3 invariant-loop decreases-loop
+returns-3 : tie.Need-returns invariant-loop decreases-loop
 returns-3 c =
     let end = c.before.before in
-    sym (end.before.loop.invariant ∙ first-none _ _ _ end.loop-test.false (sym c.before.starts-with2.ensures ∙ c.if2.false))
+    sym (end.before.loop-at.invariant ∙ first-none _ _ _ end.loop-at-test.false (sym c.before.starts_with-2.ensures ∙ c.if-starts_with-2.false))
 
-pub first-place-spec : {M : Type 1} → statement M
-first-place-spec =
+pub first_place_spec : {M : Type 1} → statement M
+first_place_spec =
     tie.close
     (tie.spec
     invariant-loop

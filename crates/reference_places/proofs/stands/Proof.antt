@@ -10,5 +10,5 @@ returns : tie.Need-returns
 unfolding stands
 returns c = ap (ltb 0) c.frequency.ensures
 
-pub stands-spec : {M : Type 1} → statement M
-stands-spec = tie.close (tie.spec (λ c κs. search rules) returns)
+pub stands_spec : {M : Type 1} → statement M
+stands_spec = tie.close (tie.spec (λ c κs. search rules) returns)

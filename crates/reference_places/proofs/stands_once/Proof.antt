@@ -11,5 +11,5 @@ returns : tie.Need-returns
 unfolding stands_once
 returns c = ap (λ (n : ℕ). eqb n 1) c.frequency.ensures
 
-pub stands-once-spec : {M : Type 1} → statement M
-stands-once-spec = tie.close (tie.spec (λ c κs. search rules) returns)
+pub stands_once_spec : {M : Type 1} → statement M
+stands_once_spec = tie.close (tie.spec (λ c κs. search rules) returns)

@@ -6,7 +6,7 @@ use Rattle.reference_symmetry.proofs.first_mismatch.Statement.{statement}
 use Rattle.reference_symmetry.proofs.first_mismatch.Tie as tie
 
 returns : tie.Need-returns
-returns c = sym (mismatch-whole _ _ _ _ refl c.first-mismatch.ensures)
+returns c = sym (mismatch-whole _ _ _ _ refl c.first_mismatch.ensures)
 
-pub first-mismatch-spec : {M : Type 1} → statement M
-first-mismatch-spec = tie.close (tie.spec (λ c κs. omega arith) returns)
+pub first_mismatch_spec : {M : Type 1} → statement M
+first_mismatch_spec = tie.close (tie.spec (λ c κs. omega arith) returns)

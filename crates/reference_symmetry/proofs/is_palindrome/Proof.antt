@@ -5,11 +5,11 @@ use Rattle.reference_symmetry.proofs.Palindromes.{palindrome-empty, palindrome-o
 use Rattle.reference_symmetry.proofs.is_palindrome.Statement.{statement}
 use Rattle.reference_symmetry.proofs.is_palindrome.Tie as tie
 
-returns : tie.Need-returns
-returns c = sym (palindrome-empty _ _ c.if1.true)
+returns : tie.Need-returns-then-w-eq0
+returns c = sym (palindrome-empty _ _ c.if-w-eq0.true)
 
-returns-2 : tie.Need-returns-2
-returns-2 c = c.is-symmetric.ensures ∙ sym (palindrome-other _ _ c.before.if1.false)
+returns-2 : tie.Need-returns
+returns-2 c = c.is_symmetric.ensures ∙ sym (palindrome-other _ _ c.before.if-w-eq0.false)
 
-pub is-palindrome-spec : {M : Type 1} → statement M
-is-palindrome-spec = tie.close (tie.spec returns (λ c κs. search rules) returns-2)
+pub is_palindrome_spec : {M : Type 1} → statement M
+is_palindrome_spec = tie.close (tie.spec returns (λ c κs. search rules) returns-2)

@@ -8,7 +8,7 @@ use Rattle.reference_symmetry.proofs.is_symmetric.Tie as tie
 
 returns : tie.Need-returns
 unfolding is_symmetric
-returns c = ap (λ n. eqb n 0) c.first-mismatch.ensures
+returns c = ap (λ n. eqb n 0) c.first_mismatch.ensures
 
-pub is-symmetric-spec : {M : Type 1} → statement M
-is-symmetric-spec = tie.close (tie.spec (λ c κs. search rules) returns)
+pub is_symmetric_spec : {M : Type 1} → statement M
+is_symmetric_spec = tie.close (tie.spec (λ c κs. search rules) returns)

@@ -9,13 +9,13 @@ returns : tie.Need-returns
 returns c =
     let s = c.before.before.before.before in
     let g = s.requires.0 in
-    let length = c.length-of.ensures in (
+    let length = c.length_of.ensures in (
       kept length.1 ∙ length.0 ∙ g.table.length-is s.args.r s.requires.1,
-      (c.before.before.link-of.ensures.0 ∙ link_row_lem g s.args.r s.requires.1, c.before.inner-of.ensures.0 ∙ inner-row g s.args.r s.requires.1),
+      (c.before.before.link_of-link.ensures.0 ∙ link_row_lem g s.args.r s.requires.1, c.before.inner_of-inner.ensures.0 ∙ inner-row g s.args.r s.requires.1),
     )
 
-pub row-spec : {M : Type 1} → statement M
-row-spec =
+pub row_spec : {M : Type 1} → statement M
+row_spec =
     tie.close
     (tie.spec
     (λ c κs. let s = c.before in used-fits s.requires.0 s.args.r s.requires.1)
