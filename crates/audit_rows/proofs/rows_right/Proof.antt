@@ -146,7 +146,7 @@ rows_right_spec =
     (λ c κs. let a = at_row c.before.before.before in (row_fits a.sized c.before.before.before.before.loop-r.r a.inside, a.low))
     (λ c. let l = c.before.before.before.before in let a = at_row l in omega (arith, c.says-said.ensures.1, l.before.loop-r.invariant.said-few, a.inside, a.sized.at_most))
     (λ c. let a = at_row c.before.before.before.before in omega (arith, a.inside, a.sized.at_most))
-    (λ c. let l = c.before.before.before.before in omega (arith, l.loop-test.true))
+    (λ c. let l = c.before.before.before.before in omega (arith, l.loop-r-test.true))
     loop-again
     (λ c h. c.if-edges-met.true (edges-all c.before ∙ h.edges))
     (λ c h. c.if-said-met.true (said_all c.before.before ∙ h.said))

@@ -72,7 +72,7 @@ returns-2 c =
     let t = marked left.before in
     let first = first_of t in
     let s = (from_back first).requires.1 in
-    tour-old s.0 s.1 (named first) t.if-marks-q-eq1.taken (rw left.before.reach_at.ensures at left.left_known-known.ensures) c.arrive.ensures
+    tour-old s.0 s.1 (named first) t.if-marks-q-eq1.true (rw left.before.reach_at.ensures at left.left_known-known.ensures) c.arrive.ensures
 
 new_row_right-requires : tie.Need-new_row_right-requires
 new_row_right-requires c κs =
@@ -86,7 +86,7 @@ returns-3 c g =
     let a = s.args in
     let q = first.before.before.edge_of-q in
     let new = c.before.new_row_right in
-    good_new s.requires.1.0 s.requires.1.1 g q.ensures.0 (subst (NewRow a.b.now a.k a.d a.u q.result) (not-true new.result c.if-not-new_row_right.true) new.ensures)
+    good_new s.requires.1.0 s.requires.1.1 g q.ensures.0 (subst (NewRow a.b.now a.k a.d a.u q.result) c.if-not-new_row_right.true new.ensures)
 
 -- the row is right
 right : (c : tie.Else-not-new_row_right) → NewRow (from_back (back-of-new c)).args.b.now (from_back (back-of-new c)).args.k (from_back (back-of-new c)).args.d (from_back (back-of-new c)).args.u (back-of-new c).before.before.edge_of-q.result true
@@ -94,7 +94,7 @@ right c =
     let first = back-of-new c in
     let a = (from_back first).args in
     let new = c.before.new_row_right in
-    subst (NewRow a.b.now a.k a.d a.u first.before.before.edge_of-q.result) (not-false new.result c.if-not-new_row_right.false) new.ensures
+    subst (NewRow a.b.now a.k a.d a.u first.before.before.edge_of-q.result) c.if-not-new_row_right.false new.ensures
 
 slice_write-marks : tie.Need-bounds-marks-q-2
 slice_write-marks c =
@@ -127,9 +127,9 @@ returns-4 c =
     let first = back second in
     let s = from_back first in
     let q = first.before.before.edge_of-q in
-    tour-new s.requires.1.0 s.requires.1.1 (named first) q.ensures.0 second.if-marks-q-eq1.left (right third)
+    tour-new s.requires.1.0 s.requires.1.1 (named first) q.ensures.0 second.if-marks-q-eq1.false (right third)
     (subst (λ (x : Reach). LeftNew s.args.b.now s.args.k q.result x left.left_new-new.result) left.before.reach_at-2.ensures left.left_new-new.ensures)
-    c.arrive-2.ensures counted.count_row.auto.1.0 counted.count_row.ensures
+    c.arrive-2.ensures counted.count_row.auto.carried counted.count_row.ensures
 
 pub enter_spec : {M : Type 1} → statement M
 enter_spec =

@@ -21,7 +21,7 @@ decreases-loop b marks₀ carried₀ f n partners tour₀ k₀ marks carried tou
 
 -- how the two arrays stand after a letter's visit
 abbrev visited : tie.After-advance invariant-loop decreases-loop → Word × Word
-visited v = (v.advance.new.1.1.1.0, v.advance.new.1.1.1.1.0)
+visited v = (v.advance.new.marks, v.advance.new.carried)
 
 -- the entry, from behind the header's reading and from within the loop; and the letter whose visit was made
 abbrev entry : tie.After-frame_of-f invariant-loop decreases-loop → tie.Start invariant-loop decreases-loop
@@ -43,12 +43,12 @@ advance-requires c κs =
 same_length : tie.Need-shape_of-marks-in_default invariant-loop decreases-loop
 same_length c =
     let v = c.before.before.before.before.before in
-    v.advance.auto.1.1.1.0 ∙ ((letter-of v).before.loop.invariant.long ∙ sym (entry-of-letter (letter-of v)).requires.1.0.long)
+    v.advance.auto.marks ∙ ((letter-of v).before.loop-k.invariant.long ∙ sym (entry-of-letter (letter-of v)).requires.1.0.long)
 
 same_length-2 : tie.Need-shape_of-carried-in_default invariant-loop decreases-loop
 same_length-2 c =
     let v = c.before.before.before.before.before in
-    v.advance.auto.1.1.1.1.0 ∙ ((letter-of v).before.loop.invariant.lengths.long ∙ sym (entry-of-letter (letter-of v)).requires.1.1.long)
+    v.advance.auto.carried ∙ ((letter-of v).before.loop-k.invariant.lengths.long ∙ sym (entry-of-letter (letter-of v)).requires.1.1.long)
 
 returns : tie.Need-returns-in_default invariant-loop decreases-loop
 returns c =
@@ -60,7 +60,7 @@ returns c =
 add-k : tie.Need-overflow_add-k invariant-loop decreases-loop
 add-k c =
     let l = letter-of c.before.before.before.before.before in
-    omega (arith, l.loop-k-test.taken, l.before.before.before.frame_of-f.ensures.size_is, (entry-of-letter l).requires.0.sized.letters-fit, (entry-of-letter l).requires.0.sized.at_most)
+    omega (arith, l.loop-k-test.true, l.before.before.before.frame_of-f.ensures.size_is, (entry-of-letter l).requires.0.sized.letters-fit, (entry-of-letter l).requires.0.sized.at_most)
 
 loop-again : tie.Need-loop-k-preserved invariant-loop decreases-loop
 loop-again c =
