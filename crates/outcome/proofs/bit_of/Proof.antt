@@ -5,13 +5,13 @@ use Rattle.outcome.specs.Reply.{bit}
 use Rattle.outcome.proofs.bit_of.Statement.{statement}
 use Rattle.outcome.proofs.bit_of.Tie as tie
 
-returns : tie.Need-returns
+returns : tie.Need-returns-then-flag
 unfolding bit
-returns c = (sym (ap bit c.if1.true), omega arith)
+returns c = (sym (ap bit c.if-flag.true), omega arith)
 
-returns-2 : tie.Need-returns-2
+returns-2 : tie.Need-returns-else-flag
 unfolding bit
-returns-2 c = (sym (ap bit c.if1.false), omega arith)
+returns-2 c = (sym (ap bit c.if-flag.false), omega arith)
 
-pub bit-of-spec : {M : Type 1} → statement M
-bit-of-spec = tie.close (tie.spec returns returns-2)
+pub bit_of_spec : {M : Type 1} → statement M
+bit_of_spec = tie.close (tie.spec returns returns-2)

@@ -8,5 +8,5 @@ use Rattle.outcome.proofs.pack_wide.Tie as tie
 returns : tie.Need-returns
 returns c = sym (wide-packed _ _)
 
-pub pack-wide-spec : {M : Type 1} → statement M
-pack-wide-spec = tie.close (tie.spec (λ c. search rules) (λ c. search rules) (λ c. search rules) returns)
+pub pack_wide_spec : {M : Type 1} → statement M
+pack_wide_spec = tie.close (tie.spec (λ c. search rules) (λ c. search rules) (λ c. search rules) returns)

@@ -16,22 +16,22 @@ asked h e = subst (λ (a : Added). ((added_reply a).row < 65536) × ((added_repl
 pack-requires : tie.Need-pack-requires
 unfolding added_reply accepted
 pack-requires c κs =
-    let h = asked c.before.before.before.requires c.before.added.given.1 in
+    let h = asked c.before.requires c.in-New.is in
     (h.0, h.1, omega arith)
 
-pack-requires-2 : tie.Need-pack-requires-2
+pack-requires-2 : tie.Need-pack-requires-in-Known
 unfolding added_reply accepted
 pack-requires-2 c κs =
-    let h = asked c.before.before.before.requires c.before.added2.given.1 in
+    let h = asked c.before.requires c.in-Known.is in
     (omega arith, omega (arith, h.1), omega (arith, h.1))
 
-returns : tie.Need-returns
+returns : tie.Need-returns-in-New
 unfolding added_reply
-returns c = c.pack.ensures ∙ ap (λ (a : Added). packed (added_reply a)) (sym c.before.before.added.given.1)
+returns c = c.pack.ensures ∙ ap (λ (a : Added). packed (added_reply a)) (sym c.before.in-New.is)
 
-returns-2 : tie.Need-returns-2
+returns-2 : tie.Need-returns-in-Known
 unfolding added_reply
-returns-2 c = c.pack2.ensures ∙ ap (λ (a : Added). packed (added_reply a)) (sym c.before.before.added2.given.1)
+returns-2 c = c.pack-in-Known.ensures ∙ ap (λ (a : Added). packed (added_reply a)) (sym c.before.in-Known.is)
 
-pub answer-added-spec : {M : Type 1} → statement M
-answer-added-spec = tie.close (tie.spec (λ c. search rules) pack-requires (λ c. search rules) pack-requires-2 returns returns-2)
+pub answer_added_spec : {M : Type 1} → statement M
+answer_added_spec = tie.close (tie.spec (λ c. search rules) pack-requires (λ c. search rules) pack-requires-2 returns returns-2)

@@ -16,22 +16,22 @@ asked h e = subst (λ (a : Found). ((found_reply a).row < 65536) × ((found_repl
 pack-requires : tie.Need-pack-requires
 unfolding found_answer accepted
 pack-requires c κs =
-    let h = asked c.before.before.before.requires c.before.found.given.1 in
+    let h = asked c.before.requires c.in-At.is in
     (h.0, h.1, omega arith)
 
-pack-requires-2 : tie.Need-pack-requires-2
+pack-requires-2 : tie.Need-pack-requires-in-Absent
 unfolding found_answer accepted
 pack-requires-2 c κs =
-    let h = asked c.before.before.before.requires c.before.found2.given.1 in
+    let h = asked c.before.requires c.in-Absent.is in
     (omega arith, omega (arith, h.1), omega (arith, h.1))
 
-returns : tie.Need-returns
+returns : tie.Need-returns-in-At
 unfolding found_answer
-returns c = c.pack.ensures ∙ ap (λ (a : Found). packed (found_reply a)) (sym c.before.before.found.given.1)
+returns c = c.pack.ensures ∙ ap (λ (a : Found). packed (found_reply a)) (sym c.before.in-At.is)
 
-returns-2 : tie.Need-returns-2
+returns-2 : tie.Need-returns-in-Absent
 unfolding found_answer
-returns-2 c = c.pack2.ensures ∙ ap (λ (a : Found). packed (found_reply a)) (sym c.before.before.found2.given.1)
+returns-2 c = c.pack-in-Absent.ensures ∙ ap (λ (a : Found). packed (found_reply a)) (sym c.before.in-Absent.is)
 
-pub answer-found-spec : {M : Type 1} → statement M
-answer-found-spec = tie.close (tie.spec (λ c. search rules) pack-requires (λ c. search rules) pack-requires-2 returns returns-2)
+pub answer_found_spec : {M : Type 1} → statement M
+answer_found_spec = tie.close (tie.spec (λ c. search rules) pack-requires (λ c. search rules) pack-requires-2 returns returns-2)
