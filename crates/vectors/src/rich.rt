@@ -1,16 +1,17 @@
 // Rich binary strings: those that have as many palindromes as letters.
 use crate::show;
+use std::io;
 
 const PLAIN: [u8; 0] = [];
 
-pub fn show() {
-    show::question(b"rich binary strings,", b" lengths 0 to 10:");
+pub fn show(rt: &impl Print) -> io::Result<()> {
+    show::question(rt, b"rich binary strings,", b" lengths 0 to 10:")?;
     let mut n = 0;
     while n < 11 {
-        show::item(of_length(n));
+        show::item(rt, of_length(n))?;
         n += 1;
     }
-    show::line_end();
+    show::line_end(rt)
 }
 
 // How many have n letters; none is counted past 10.

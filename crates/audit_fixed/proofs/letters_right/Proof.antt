@@ -8,23 +8,23 @@ use Rattle.audit_fixed.proofs.Decided.{test-decides}
 use Rattle.audit_fixed.proofs.letters_right.Statement.{statement}
 use Rattle.audit_fixed.proofs.letters_right.Tie as tie
 
-part-all-letters-end : tie.Need-slice-bounds-all-letters-end
-part-all-letters-end c =
-    let w = framed-within c.before.frame-of.ensures c.before.before.before.requires 0 (omega arith) in
+part-all_letters-end : tie.Need-slice_bounds-all_letters-end
+part-all_letters-end c =
+    let w = framed-within c.before.frame_of-frame.ensures c.before.before.before.requires 0 (omega arith) in
     let e = w.letters in
     search rules
 
 returns : tie.Need-returns
-returns c = test-decides c.all-letters.result (c.all-letters.ensures ∙ ap all_letters (framed-part c.before.before.before.frame-of.ensures))
+returns c = test-decides c.all_letters.result (c.all_letters.ensures ∙ ap all_letters (framed-part c.before.before.before.frame_of-frame.ensures))
 
-pub letters-right-spec : {M : Type 1} → statement M
-letters-right-spec =
+pub letters_right_spec : {M : Type 1} → statement M
+letters_right_spec =
     tie.close
     (tie.spec
     (λ c κs. search rules)
     (λ c. search rules)
     (λ c. search rules)
     (λ c. search rules)
-    part-all-letters-end
+    part-all_letters-end
     (λ c κs. search rules)
     returns)

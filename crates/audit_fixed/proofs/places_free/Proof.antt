@@ -19,10 +19,10 @@ record Passed (b : Word) (i : ℕ) : Type 0 where
   low : size_in b ≤ i
   so_far : (j : ℕ) → j < i → size_in b ≤ j → get_or b (letters_at (capacity_in b) + j) 0 ≡ 0
 
-abbrev invariant-loop : tie.invariant-loop
+abbrev invariant-loop : tie.invariant-loop-i
 invariant-loop b base capacity i₀ i = Passed b i
 
-abbrev decreases-loop : tie.decreases-loop
+abbrev decreases-loop : tie.decreases-loop-i
 decreases-loop b base capacity i₀ i = capacity - i
 
 module _ {b : Word} {f : Frame} {i : ℕ} (z : Sized b) (h : Frames b f) (p : Passed b i) (l : i < f.capacity) where
@@ -43,28 +43,28 @@ module _ {b : Word} {f : Frame} {i : ℕ} (z : Sized b) (h : Frames b f) (p : Pa
         so_far = below_more (λ j. (size_in b ≤ j → get_or b (letters_at (capacity_in b) + j) 0 ≡ 0)) i p.so_far (λ m. sym same ∙ e);
       }
 
-loop-holds : tie.Need-loop-init invariant-loop decreases-loop
-loop-holds c = record { low = omega (arith, c.frame-of.ensures.size_is); so_far = λ j l m. absurd (omega arith) }
+loop-holds : tie.Need-loop-i-init invariant-loop decreases-loop
+loop-holds c = record { low = omega (arith, c.frame_of-frame.ensures.size_is); so_far = λ j l m. absurd (omega arith) }
 
 -- the byte that is looked at lies within the store
-read-inside : (c : tie.In-loop invariant-loop decreases-loop) → c.before.before.frame-of.result.base + c.before.loop.i < length c.before.before.before.before.args.b.now
-read-inside c = inside c.before.before.before.before.requires c.before.before.frame-of.ensures c.before.loop.invariant c.loop-test.true
+read-inside : (c : tie.In-loop-i invariant-loop decreases-loop) → c.before.before.frame_of-frame.result.base + c.before.loop-i.i < length c.before.before.before.before.args.b.now
+read-inside c = inside c.before.before.before.before.requires c.before.before.frame_of-frame.ensures c.before.loop-i.invariant c.loop-i-test.true
 
-returns : tie.Need-returns invariant-loop decreases-loop
+returns : tie.Need-returns-then-b-base-ne0 invariant-loop decreases-loop
 returns c =
     let l = c.before.before in
-    stops l.before.before.before.before.requires l.before.before.frame-of.ensures l.before.loop.invariant l.loop-test.true c.if1.true
+    stops l.before.before.before.before.requires l.before.before.frame_of-frame.ensures l.before.loop-i.invariant l.loop-i-test.true c.if-b-base-ne0.true
 
-loop-again : tie.Need-loop-preserved invariant-loop decreases-loop
+loop-again : tie.Need-loop-i-preserved invariant-loop decreases-loop
 loop-again c =
     let l = c.before.before in
-    passes l.before.before.before.before.requires l.before.before.frame-of.ensures l.before.loop.invariant l.loop-test.true c.if1.false
+    passes l.before.before.before.before.requires l.before.before.frame_of-frame.ensures l.before.loop-i.invariant l.loop-i-test.true c.if-b-base-ne0.false
 
-returns-2 : tie.Need-returns-2 invariant-loop decreases-loop
-returns-2 c i l m = c.before.loop.invariant.so_far i (omega (arith, c.before.before.frame-of.ensures.capacity-is, c.loop-test.false)) l
+returns-2 : tie.Need-returns invariant-loop decreases-loop
+returns-2 c i l m = c.before.loop-i.invariant.so_far i (omega (arith, c.before.before.frame_of-frame.ensures.capacity-is, c.loop-i-test.false)) l
 
-pub places-free-spec : {M : Type 1} → statement M
-places-free-spec =
+pub places_free_spec : {M : Type 1} → statement M
+places_free_spec =
     tie.close
     (tie.spec
     invariant-loop

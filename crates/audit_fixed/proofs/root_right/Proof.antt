@@ -25,29 +25,29 @@ same : {x y : ℤ} → Stored x → SFits w32 y → of_z w32 x ≡ of_z w32 y �
 same s f e = sym (kept s) ∙ ap (to_z w32) e ∙ to_z-of_z f
 
 -- the entry, from behind the first and from behind the last test
-abbrev from_first : tie.Else1 → tie.Start
+abbrev from_first : tie.Else-length_of-length → tie.Start
 from_first c = c.before.before.before
 
-abbrev from_last : tie.Else4 → tie.Start
+abbrev from_last : tie.Else-outer_of-ne0 → tie.Start
 from_last c = from_first c.before.before.before.before.before.before
 
-returns : tie.Need-returns
-returns c h = c.if1.true (ap (of_z w32) (c.before.length-of.ensures.0 ∙ h.length-is))
+returns : tie.Need-returns-then-length_of-length
+returns c h = c.if-length_of-length.true (ap (of_z w32) (c.before.length_of.ensures.0 ∙ h.length-is))
 
-returns-5 : tie.Need-returns-5
+returns-5 : tie.Need-returns
 returns-5 c =
     let inner = c.before.before in
     let link = inner.before.before in
     let first = link.before.before in
     record {
-      length-is = sym first.before.length-of.ensures.0 ∙ same first.before.length-of.ensures.1 (from_last c).ranges.length first.if1.false;
-      link = sym link.before.link-of.ensures.0 ∙ link.if2.false;
-      inner = sym inner.before.inner-of.ensures.0 ∙ inner.if3.false;
-      outer = sym c.before.outer-of.ensures.0 ∙ c.if4.false;
+      length-is = sym first.before.length_of.ensures.0 ∙ same first.before.length_of.ensures.1 (from_last c).ranges.length first.if-length_of-length.false;
+      link = sym link.before.link_of.ensures.0 ∙ link.if-link_of-ne-IMAGINARY.false;
+      inner = sym inner.before.inner_of.ensures.0 ∙ inner.if-inner_of-ne-IMAGINARY.false;
+      outer = sym c.before.outer_of.ensures.0 ∙ c.if-outer_of-ne0.false;
     }
 
-pub root-right-spec : {M : Type 1} → statement M
-root-right-spec =
+pub root_right_spec : {M : Type 1} → statement M
+root_right_spec =
     tie.close
     (tie.spec
     (λ c κs. root-fits c.before.requires.0 c.before.requires.1)

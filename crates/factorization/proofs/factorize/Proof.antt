@@ -16,10 +16,10 @@ use Rattle.factorization.proofs.factorize.Statement.{statement}
 use Rattle.factorization.proofs.factorize.Tie as tie
 
 -- the filling, from where the number is read; and the entry from there
-abbrev from-size : tie.After-size → tie.After-fill
+abbrev from-size : tie.After-size → tie.After-fill-steps
 from-size c = c.before.before.before.before.before
 
-abbrev entry : tie.After-fill → tie.Start
+abbrev entry : tie.After-fill-steps → tie.Start
 entry c = c.before.before.before.before.before.before.before.before.before.before
 
 size-requires : tie.Need-size-requires
@@ -27,26 +27,26 @@ size-requires c κs = header-fits (entry c.before.before.before.before).requires
 
 -- the number that is read is that of the whole record
 number_is : (c : tie.After-size) → let f = from-size c in let b = (entry f).args.b.now in
-    get_or f.fill.last.1.1.0 c.size.result 0 ≡ palindromic_length (rule_of b) (letters_in b)
+    get_or f.fill-steps.new.factors c.size.result 0 ≡ palindromic_length (rule_of b) (letters_in b)
 unfolding palindromic_length
 number_is c =
     let f = from-size c in
     let s = entry f in
     let b = s.args.b.now in
-    ap (λ (k : ℕ). get_or f.fill.last.1.1.0 k 0) c.size.ensures.0 ∙ f.fill.ensures.0.each (size_in b) (omega arith)
-    ∙ ap (factors_in b) (sym (letters-length s.pre.0.0.sized))
+    ap (λ (k : ℕ). get_or f.fill-steps.new.factors k 0) c.size.ensures.0 ∙ f.fill-steps.ensures.0.each (size_in b) (omega arith)
+    ∙ ap (factors_in b) (sym (letters-length s.requires.0.0.sized))
 
-cast-number : tie.Need-overflow-cast-number
+cast-number : tie.Need-overflow_cast-number
 cast-number c =
     let s = entry (from-size c) in
     let b = s.args.b.now in
-    omega (arith, number_is c, length_most (rule_of b) (letters_in b), letters-length s.pre.0.0.sized, size-most s.pre.0.0)
+    omega (arith, number_is c, length_most (rule_of b) (letters_in b), letters-length s.requires.0.0.sized, size-most s.requires.0.0)
 
 returns : tie.Need-returns
-returns c = (number_is c, (from-size c).fill.ensures.1)
+returns c = (number_is c, (from-size c).fill-steps.ensures.1)
 
-pub factorize-spec : {M : Type 1} → statement M
-factorize-spec =
+pub factorize_spec : {M : Type 1} → statement M
+factorize_spec =
     tie.close
     (tie.spec
     (λ c κs. search rules)

@@ -14,80 +14,80 @@ use Rattle.factorization.proofs.Tracing.{Traced, traced-first, traced-last, trac
 use Rattle.factorization.proofs.put_ends.Statement.{statement}
 use Rattle.factorization.proofs.put_ends.Tie as tie
 
-abbrev invariant-loop : tie.invariant-loop
+abbrev invariant-loop : tie.invariant-loop-end
 invariant-loop b lasts number out₀ at₀ end₀ out at end = Traced b lasts out₀ out at end
 
-abbrev decreases-loop : tie.decreases-loop
+abbrev decreases-loop : tie.decreases-loop-end
 decreases-loop b lasts number out₀ at₀ end₀ out at end = end
 
 -- the entry, from the loop
-abbrev from-loop : tie.At-loop invariant-loop decreases-loop → tie.Start invariant-loop decreases-loop
+abbrev from-loop : tie.At-loop-end invariant-loop decreases-loop → tie.Start invariant-loop decreases-loop
 from-loop c = c.before.before.before.before.before
 
-abbrev in-loop : tie.In-loop invariant-loop decreases-loop → tie.At-loop invariant-loop decreases-loop
+abbrev in-loop : tie.In-loop-end invariant-loop decreases-loop → tie.At-loop-end invariant-loop decreases-loop
 in-loop c = c.before
 
-module _ (c : tie.In-loop invariant-loop decreases-loop) where
+module _ (c : tie.In-loop-end invariant-loop decreases-loop) where
   abbrev start : tie.Start invariant-loop decreases-loop
   start = from-loop (in-loop c)
 
   abbrev good : Good start.args.b.now
-  good = start.pre.0.0
+  good = start.requires.0.0
 
-  abbrev left : let a = start.args in let l = (in-loop c).loop in Traced a.b.now a.lasts.now a.out.now l.out l.at l.end
-  left = (in-loop c).loop.invariant
+  abbrev left : let a = start.args in let l = (in-loop c).loop-end in Traced a.b.now a.lasts.now a.out.now l.out l.at l.end
+  left = (in-loop c).loop-end.invariant
 
-  some : 1 ≤ (in-loop c).loop.end
-  some = omega (arith, c.loop-test.true)
+  some : 1 ≤ (in-loop c).loop-end.end
+  some = omega (arith, c.loop-end-test.true)
 
-  small : (in-loop c).loop.end ≤ 1024
+  small : (in-loop c).loop-end.end ≤ 1024
   small = omega (arith, left.inside, size-most good)
 
-  two : 2 ≤ (in-loop c).loop.at
-  two = omega (arith, place-back good start.pre.1.0 left some)
+  two : 2 ≤ (in-loop c).loop-end.at
+  two = omega (arith, place-back good start.requires.1.0 left some)
 
-mul_at : tie.Need-overflow-mul-at invariant-loop decreases-loop
+mul_at : tie.Need-overflow_mul-at invariant-loop decreases-loop
 mul_at c =
     let s = c.before.before.before in
     let b = s.args.b.now in
     omega (arith, s.requires.1.1.0, length_most (rule_of b) (letters_in b), letters-length s.requires.0.0.sized, size-most s.requires.0.0)
 
-size-requires : tie.Need-size-requires invariant-loop decreases-loop
+size-requires : tie.Need-size-end-requires invariant-loop decreases-loop
 size-requires c κs = header-fits c.before.before.before.requires.0.0.sized
 
-loop-holds : tie.Need-loop-init invariant-loop decreases-loop
+loop-holds : tie.Need-loop-end-init invariant-loop decreases-loop
 loop-holds c =
     let s = c.before.before.before.before in
     let first = traced-first s.requires.0.0 s.requires.1.0 s.requires.0.1 s.args.out.now s.requires.1.1.0 s.requires.1.1.1 in
-    subst (Traced s.args.b.now s.args.lasts.now s.args.out.now s.args.out.now _) (sym c.size.ensures.0) first
+    subst (Traced s.args.b.now s.args.lasts.now s.args.out.now s.args.out.now _) (sym c.size-end.ensures.0) first
 
 -- the entry, from behind the loop
-abbrev from_end : tie.After-loop invariant-loop decreases-loop → tie.Start invariant-loop decreases-loop
+abbrev from_end : tie.After-loop-end invariant-loop decreases-loop → tie.Start invariant-loop decreases-loop
 from_end c = from-loop c.before
 
-slice-write-out : tie.Need-slice-write-out invariant-loop decreases-loop
-slice-write-out c = omega (arith, two c, (left c).room)
+slice_write-out : tie.Need-bounds-out-at invariant-loop decreases-loop
+slice_write-out c = omega (arith, two c, (left c).room)
 
-slice-write-out-2 : tie.Need-slice-write-out-2 invariant-loop decreases-loop
-slice-write-out-2 c = simp length-set (omega (arith, two c, (left c).room))
+slice_write-out-2 : tie.Need-bounds-out-at-in-loop-end invariant-loop decreases-loop
+slice_write-out-2 c = simp length-set (omega (arith, two c, (left c).room))
 
-shared-slice-read-end : tie.Need-shared-slice-read-end invariant-loop decreases-loop
-shared-slice-read-end c = let i = c.before in omega (arith, some i, (left i).inside, (start i).requires.1.0.long)
+shared_slice_read-end : tie.Need-bounds-lasts-end invariant-loop decreases-loop
+shared_slice_read-end c = let i = c.before in omega (arith, some i, (left i).inside, (start i).requires.1.0.long)
 
 -- where the factor begins
-begin-low : (c : tie.In-loop invariant-loop decreases-loop) → let s = start c in get_or s.args.lasts.now ((in-loop c).loop.end - 1) 0 < (in-loop c).loop.end
-begin-low c = falls (good c) (start c).requires.1.0 (in-loop c).loop.end (some c) (left c).inside
+begin-low : (c : tie.In-loop-end invariant-loop decreases-loop) → let s = start c in get_or s.args.lasts.now ((in-loop c).loop-end.end - 1) 0 < (in-loop c).loop-end.end
+begin-low c = falls (good c) (start c).requires.1.0 (in-loop c).loop-end.end (some c) (left c).inside
 
-loop-again : tie.Need-loop-preserved invariant-loop decreases-loop
+loop-again : tie.Need-loop-end-preserved invariant-loop decreases-loop
 loop-again c = let i = c.before in traced-more (good i) (start i).requires.1.0 (left i) (some i)
 
 returns : tie.Need-returns invariant-loop decreases-loop
 returns c =
     let s = from_end c in
-    traced-last s.pre.0.0 s.pre.1.0 c.before.loop.invariant (omega (arith, c.loop-test.false))
+    traced-last s.requires.0.0 s.requires.1.0 c.before.loop-end.invariant (omega (arith, c.loop-end-test.false))
 
-pub put-ends-spec : {M : Type 1} → statement M
-put-ends-spec =
+pub put_ends_spec : {M : Type 1} → statement M
+put_ends_spec =
     tie.close
     (tie.spec
     invariant-loop
@@ -97,15 +97,15 @@ put-ends-spec =
     loop-holds
     two
     (λ c. omega (arith, small c))
-    (λ c. omega (arith, two c, (left c).room, (left c).kept, (start c).well-formed))
-    slice-write-out
+    (λ c. omega (arith, two c, (left c).room, (left c).kept, (start c).well_formed))
+    slice_write-out
     (λ c. omega arith)
-    slice-write-out-2
+    slice_write-out-2
     some
     (λ c. omega (arith, small c))
-    shared-slice-read-end
+    shared_slice_read-end
     (λ c. omega (arith, begin-low c.before, small c.before))
     (λ c. begin-low c.before)
     loop-again
-    (λ c. c.before.loop.invariant.kept)
+    (λ c. c.before.loop-end.invariant.kept)
     returns)

@@ -11,36 +11,36 @@ place : (s : tie.Start) → s.args.row < 1026
 place s = row_below s.requires.0 s.args.row s.requires.1.1.0
 
 -- the entry, from behind the reading of the jump, and where it leads
-abbrev from-wide : tie.After-wide → tie.Start
+abbrev from-wide : tie.After-wide-far → tie.Start
 from-wide c = c.before.before.before.before
 
-to-far : (c : tie.After-wide) → let s = from-wide c in Below s.args.b.now s.args.row c.wide.result
+to-far : (c : tie.After-wide-far) → let s = from-wide c in Below s.args.b.now s.args.row c.wide-far.result
 to-far c = let s = from-wide c in
-    subst (Below s.args.b.now s.args.row) (sym c.wide.ensures.0) (s.pre.1.0.each s.args.row s.pre.1.1.0)
+    subst (Below s.args.b.now s.args.row) (sym c.wide-far.ensures.0) (s.requires.1.0.each s.args.row s.requires.1.1.0)
 
-spelling-length-requires : tie.Need-spelling-length-requires
-spelling-length-requires c κs = ((from-wide c).requires.0, (to-far c).used)
+spelling_length-requires : tie.Need-spelling_length-requires
+spelling_length-requires c κs = ((from-wide c).requires.0, (to-far c).used)
 
-returns : tie.Need-returns
+returns : tie.Need-returns-then-n-spelling_length
 returns c =
     let s = from-wide c.before.before in
-    near-far s.pre.0 (to-far c.before.before) s.pre.1.1.1 (omega (arith, c.if1.true, c.before.spelling-length.ensures))
+    near-far s.requires.0 (to-far c.before.before) s.requires.1.1.1 (omega (arith, c.if-n-spelling_length.true, c.before.spelling_length.ensures))
 
-link-of-requires : tie.Need-link-of-requires
-link-of-requires c κs = let s = from-wide c.before.before in used-fits s.pre.0 s.args.row s.pre.1.1.0
+link_of-requires : tie.Need-link_of-requires
+link_of-requires c κs = let s = from-wide c.before.before in used-fits s.requires.0 s.args.row s.requires.1.1.0
 
-returns-2 : tie.Need-returns-2
+returns-2 : tie.Need-returns
 returns-2 c = let s = from-wide c.before.before.before in
-    subst (Leads s.args.b.now s.args.n s.args.row) (sym c.link-of.ensures.0) (near-link s.pre.0 s.pre.1.1.0 s.pre.1.1.1)
+    subst (Leads s.args.b.now s.args.n s.args.row) (sym c.link_of.ensures.0) (near-link s.requires.0 s.requires.1.1.0 s.requires.1.1.1)
 
-pub closer-spec : {M : Type 1} → statement M
-closer-spec =
+pub closer_spec : {M : Type 1} → statement M
+closer_spec =
     tie.close
     (tie.spec
     (λ c. omega (arith, place c.before.before))
     (λ c. let s = c.before.before.before in omega (arith, place s, s.requires.1.0.long))
     (λ c κs. search rules)
-    spelling-length-requires
+    spelling_length-requires
     returns
-    link-of-requires
+    link_of-requires
     returns-2)

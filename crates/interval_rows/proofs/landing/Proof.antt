@@ -3,8 +3,8 @@ use Rattle.std.proofs.Common.{refl, inl, inr, rules}
 use Rattle.interval_rows.proofs.landing.Statement.{statement}
 use Rattle.interval_rows.proofs.landing.Tie as tie
 
-pub landing-spec : {M : Type 1} → statement M
-landing-spec =
+pub landing_spec : {M : Type 1} → statement M
+landing_spec =
     tie.close
     (tie.spec
     (λ c. search rules)

@@ -8,14 +8,14 @@ use Rattle.interval_rows.proofs.Ways.{near_first, near-found, near_none, between
 use Rattle.interval_rows.proofs.row_by_jumps.Statement.{statement}
 use Rattle.interval_rows.proofs.row_by_jumps.Tie as tie
 
-abbrev invariant-loop : tie.invariant-loop
+abbrev invariant-loop : tie.invariant-loop-row
 invariant-loop b ends jumps start end n row₀ row = Near b end (word_between b start end) row
 
-abbrev decreases-loop : tie.decreases-loop
+abbrev decreases-loop : tie.decreases-loop-row
 decreases-loop b ends jumps start end n row₀ row = length (word_in b row)
 
 -- the entry, from the loop
-abbrev from-loop : tie.At-loop invariant-loop decreases-loop → tie.Start invariant-loop decreases-loop
+abbrev from-loop : tie.At-loop-row invariant-loop decreases-loop → tie.Start invariant-loop decreases-loop
 from-loop t = t.before.before.before.before.before.before
 
 -- the row at the stretch's end
@@ -31,51 +31,51 @@ size s = between-length s.requires.0 s.args.start s.args.end s.requires.1.1.1.1
 
 -- ---- the needs
 
-loop-holds : tie.Need-loop-init invariant-loop decreases-loop
+loop-holds : tie.Need-loop-row-init invariant-loop decreases-loop
 loop-holds c =
     let s = c.before.before.before.before.before in
-    subst (Near s.args.b.now s.args.end (word_between s.args.b.now s.args.start s.args.end)) (sym c.wide.ensures.0)
+    subst (Near s.args.b.now s.args.end (word_between s.args.b.now s.args.start s.args.end)) (sym c.wide-row.ensures.0)
     (near_first s.requires.0 (between_ends s.requires.0 s.args.start s.args.end) (at-end s))
 
-closer-requires : tie.Need-closer-requires invariant-loop decreases-loop
+closer-requires : tie.Need-closer-row-requires invariant-loop decreases-loop
 closer-requires c κs =
     let t = c.before.before in
     let s = from-loop t in
-    (s.pre.0, (s.pre.1.1.0, (t.loop.invariant.used, omega (arith, c.if1.true, c.before.spelling-length.ensures))))
+    (s.requires.0, (s.requires.1.1.0, (t.loop-row.invariant.used, omega (arith, c.loop-row-test.true, c.before.spelling_length.ensures))))
 
 -- a step, for the stretch
-stepped : (c : tie.After-closer invariant-loop decreases-loop) → let t = c.before.before.before in let s = from-loop t in let b = s.args.b.now in
-    Near b s.args.end (word_between b s.args.start s.args.end) c.closer.result
-    × (length (word_in b c.closer.result) < length (word_in b t.loop.row))
+stepped : (c : tie.After-closer-row invariant-loop decreases-loop) → let t = c.before.before.before in let s = from-loop t in let b = s.args.b.now in
+    Near b s.args.end (word_between b s.args.start s.args.end) c.closer-row.result
+    × (length (word_in b c.closer-row.result) < length (word_in b t.loop-row.row))
 stepped c =
     let t = c.before.before.before in
     let s = from-loop t in
-    c.closer.ensures s.args.end (word_between s.args.b.now s.args.start s.args.end) (between_ends s.pre.0 s.args.start s.args.end)
-    (size s) t.loop.invariant
+    c.closer-row.ensures s.args.end (word_between s.args.b.now s.args.start s.args.end) (between_ends s.requires.0 s.args.start s.args.end)
+    (size s) t.loop-row.invariant
 
-returns : tie.Need-returns invariant-loop decreases-loop
+returns : tie.Need-returns-then-spelling_length-n invariant-loop decreases-loop
 returns c =
     let t = c.before.before.before.before in
     let s = from-loop t in
-    near-found s.pre.0 (between_ends s.pre.0 s.args.start s.args.end) (omega (arith, size s, s.pre.1.1.1.0))
-    (omega (arith, size s, c.if2.true, c.before.spelling-length2.ensures)) t.loop.invariant
+    near-found s.requires.0 (between_ends s.requires.0 s.args.start s.args.end) (omega (arith, size s, s.requires.1.1.1.0))
+    (omega (arith, size s, c.if-spelling_length-n.true, c.before.spelling_length-2.ensures)) t.loop-row.invariant
 
-returns-2 : tie.Need-returns-2 invariant-loop decreases-loop
+returns-2 : tie.Need-returns invariant-loop decreases-loop
 returns-2 c =
     let t = c.before.before.before.before in
     let s = from-loop t in
-    near_none s.pre.0
+    near_none s.requires.0
     (omega (
       arith,
       size s,
-      c.if2.false,
-      c.before.spelling-length2.ensures,
-      c.before.before.if1.false,
-      c.before.before.before.spelling-length.ensures,
-    )) t.loop.invariant
+      c.if-spelling_length-n.false,
+      c.before.spelling_length-2.ensures,
+      c.before.before.loop-row-test.false,
+      c.before.before.before.spelling_length.ensures,
+    )) t.loop-row.invariant
 
-pub row-by-jumps-spec : {M : Type 1} → statement M
-row-by-jumps-spec =
+pub row_by_jumps_spec : {M : Type 1} → statement M
+row_by_jumps_spec =
     tie.close
     (tie.spec
     invariant-loop
@@ -86,10 +86,10 @@ row-by-jumps-spec =
     (λ c. let s = c.before.before.before.before in omega (arith, s.requires.1.0.long, s.requires.1.1.1.0, s.requires.1.1.1.1))
     (λ c κs. search rules)
     loop-holds
-    (λ c κs. ((from-loop c).requires.0, c.loop.invariant.used))
+    (λ c κs. ((from-loop c).requires.0, c.loop-row.invariant.used))
     closer-requires
     (λ c. (stepped c).1)
     (λ c. (stepped c).0)
-    (λ c κs. let t = c.before.before in ((from-loop t).requires.0, t.loop.invariant.used))
+    (λ c κs. let t = c.before.before in ((from-loop t).requires.0, t.loop-row.invariant.used))
     returns
     returns-2)

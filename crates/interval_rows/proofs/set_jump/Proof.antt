@@ -11,110 +11,110 @@ place : (s : tie.Start) → s.args.row < 1026
 place s = row_below s.requires.0 s.args.row s.requires.1.0
 
 -- the entry, from behind the link, its jump and the jump's jump, and each of these below the one before
-abbrev from-link : tie.After-link-of → tie.Start
+abbrev from-link : tie.After-link_of-near → tie.Start
 from-link c = c.before.before.before.before.before
 
-near : (c : tie.After-link-of) → let s = from-link c in Below s.args.b.now s.args.row c.link-of.result
+near : (c : tie.After-link_of-near) → let s = from-link c in Below s.args.b.now s.args.row c.link_of-near.result
 near c = let s = from-link c in
-    subst (Below s.args.b.now s.args.row) (sym c.link-of.ensures.0) (below-link s.pre.0 s.args.row s.pre.1.0)
+    subst (Below s.args.b.now s.args.row) (sym c.link_of-near.ensures.0) (below-link s.requires.0 s.args.row s.requires.1.0)
 
-near-place : (c : tie.After-link-of) → c.link-of.result < 1026
-near-place c = row_below (from-link c).requires.0 c.link-of.result (near c).used
+near-place : (c : tie.After-link_of-near) → c.link_of-near.result < 1026
+near-place c = row_below (from-link c).requires.0 c.link_of-near.result (near c).used
 
-far : (c : tie.After-wide) → let t = c.before.before in let s = from-link t in Below s.args.b.now t.link-of.result c.wide.result
+far : (c : tie.After-wide-far) → let t = c.before.before in let s = from-link t in Below s.args.b.now t.link_of-near.result c.wide-far.result
 far c =
     let t = c.before.before in
     let s = from-link t in
-    subst (Below s.args.b.now t.link-of.result) (sym c.wide.ensures.0) (s.pre.1.1.0.each t.link-of.result (near t).used)
+    subst (Below s.args.b.now t.link_of-near.result) (sym c.wide-far.ensures.0) (s.requires.1.1.0.each t.link_of-near.result (near t).used)
 
-far-place : (c : tie.After-wide) → c.wide.result < 1026
-far-place c = row_below (from-link c.before.before).requires.0 c.wide.result (far c).used
+far-place : (c : tie.After-wide-far) → c.wide-far.result < 1026
+far-place c = row_below (from-link c.before.before).requires.0 c.wide-far.result (far c).used
 
-further : (c : tie.After-wide2) → let t = c.before.before in let s = from-link t.before.before in
-    Below s.args.b.now t.wide.result c.wide2.result
+further : (c : tie.After-wide-further) → let t = c.before.before in let s = from-link t.before.before in
+    Below s.args.b.now t.wide-far.result c.wide-further.result
 further c =
     let t = c.before.before in
     let s = from-link t.before.before in
-    subst (Below s.args.b.now t.wide.result) (sym c.wide2.ensures.0) (s.pre.1.1.0.each t.wide.result (far t).used)
+    subst (Below s.args.b.now t.wide-far.result) (sym c.wide-further.ensures.0) (s.requires.1.1.0.each t.wide-far.result (far t).used)
 
-further-place : (c : tie.After-wide2) → c.wide2.result < 1026
-further-place c = row_below (from-link c.before.before.before.before).requires.0 c.wide2.result (further c).used
+further-place : (c : tie.After-wide-further) → c.wide-further.result < 1026
+further-place c = row_below (from-link c.before.before.before.before).requires.0 c.wide-further.result (further c).used
 
 -- ---- the needs
 
-link-of-requires : tie.Need-link-of-requires
-link-of-requires c κs = let s = c.before.before.before.before in used-fits s.requires.0 s.args.row s.requires.1.0
+link_of-requires : tie.Need-link_of-near-requires
+link_of-requires c κs = let s = c.before.before.before.before in used-fits s.requires.0 s.args.row s.requires.1.0
 
-slice-read-wide : tie.Need-slice-read-wide
-slice-read-wide c = omega (arith, near-place c.before, (from-link c.before).requires.1.1.0.long)
+slice_read-wide : tie.Need-bounds-jumps-near
+slice_read-wide c = omega (arith, near-place c.before, (from-link c.before).requires.1.1.0.long)
 
-slice-read-wide-2 : tie.Need-slice-read-wide-2
-slice-read-wide-2 c = omega (arith, far-place c.before, (from-link c.before.before.before).requires.1.1.0.long)
+slice_read-wide-2 : tie.Need-bounds-jumps-far
+slice_read-wide-2 c = omega (arith, far-place c.before, (from-link c.before.before.before).requires.1.1.0.long)
 
-slice-read-wrapping-add-u16 : tie.Need-slice-read-wrapping-add-u16
-slice-read-wrapping-add-u16 c = let t = c.before.before.before.before.before in omega (arith, near-place t, (from-link t).requires.1.1.1)
+slice_read-wrapping_add_u16 : tie.Need-bounds-depths-near
+slice_read-wrapping_add_u16 c = let t = c.before.before.before.before.before in omega (arith, near-place t, (from-link t).requires.1.1.1)
 
-mul-depths : tie.Need-overflow-mul-depths
+mul-depths : tie.Need-offset_bounds-depths-row
 mul-depths c = omega (arith, place (from-link c.before.before.before.before.before.before))
 
-slice-write-depths : tie.Need-slice-write-depths
-slice-write-depths c = let s = from-link c.before.before.before.before.before.before in omega (arith, place s, s.pre.1.1.1)
+slice_write-depths : tie.Need-bounds-depths-row
+slice_write-depths c = let s = from-link c.before.before.before.before.before.before in omega (arith, place s, s.requires.1.1.1)
 
 landing-requires : tie.Need-landing-requires
 landing-requires c κs =
-    let t = c.before.before.before in
+    let t = c.before.before in
     let s = from-link t.before.before.before.before in
-    let long = length-set s.args.depths.now s.args.row c.before.wrapping-add-u16.result in (
-      omega (arith, near-place t.before.before.before.before, long, s.pre.1.1.1),
-      omega (arith, far-place t.before.before, long, s.pre.1.1.1),
-      omega (arith, further-place t, long, s.pre.1.1.1),
+    let long = length-set s.args.depths.now s.args.row c.wrapping_add_u16.result in (
+      omega (arith, near-place t.before.before.before.before, long, s.requires.1.1.1),
+      omega (arith, far-place t.before.before, long, s.requires.1.1.1),
+      omega (arith, further-place t, long, s.requires.1.1.1),
     )
 
 -- the entry, from behind the landing
 abbrev from-landing : tie.After-landing → tie.Start
-from-landing c = from-link c.before.before.before.before.before.before.before.before
+from-landing c = from-link c.before.before.before.before.before.before.before
 
-cast-jumps : tie.Need-overflow-cast-jumps
+cast-jumps : tie.Need-overflow_cast-jumps
 cast-jumps c =
-    let t = c.before.before.before.before in
+    let t = c.before.before.before in
     ⊎_elim (λ e. omega (arith, e, near-place t.before.before.before.before)) (λ e. omega (arith, e, further-place t)) c.landing.ensures
 
-mul-jumps : tie.Need-overflow-mul-jumps
+mul-jumps : tie.Need-offset_bounds-jumps-row
 mul-jumps c = omega (arith, place (from-landing c))
 
-slice-write-jumps : tie.Need-slice-write-jumps
-slice-write-jumps c = let s = from-landing c in omega (arith, place s, s.pre.1.1.0.long)
+slice_write-jumps : tie.Need-bounds-jumps-row
+slice_write-jumps c = let s = from-landing c in omega (arith, place s, s.requires.1.1.0.long)
 
-returns-2 : tie.Need-returns-2
+returns-2 : tie.Need-returns
 returns-2 c =
-    let t = c.before.before.before.before in
+    let t = c.before.before.before in
     let s = from-landing c in
-    jumps-set s.pre.0 s.args.row t.before.before.before.before.link-of.result t.before.before.wide.result t.wide2.result
+    jumps-set s.requires.0 s.args.row t.before.before.before.before.link_of-near.result t.before.before.wide-far.result t.wide-further.result
     c.landing.result
-    s.pre.1.1.0 s.pre.1.0 t.before.before.before.before.link-of.ensures.0 t.before.before.wide.ensures.0 t.wide2.ensures.0
+    s.requires.1.1.0 s.requires.1.0 t.before.before.before.before.link_of-near.ensures.0 t.before.before.wide-far.ensures.0 t.wide-further.ensures.0
     c.landing.ensures
 
-pub set-jump-spec : {M : Type 1} → statement M
-set-jump-spec =
+pub set_jump_spec : {M : Type 1} → statement M
+set_jump_spec =
     tie.close
     (tie.spec
     (λ c. search rules)
-    link-of-requires
+    link_of-requires
     (λ c. search rules)
-    slice-read-wide
+    slice_read-wide
     (λ c κs. search rules)
     (λ c. search rules)
-    slice-read-wide-2
+    slice_read-wide-2
     (λ c κs. search rules)
     (λ c. search rules)
-    slice-read-wrapping-add-u16
+    slice_read-wrapping_add_u16
     (λ c κs. search rules)
     mul-depths
-    slice-write-depths
+    slice_write-depths
     landing-requires
     cast-jumps
     mul-jumps
-    slice-write-jumps
+    slice_write-jumps
     (λ c. search rules)
     (λ c. search rules)
     returns-2)
