@@ -24,5 +24,5 @@ returns c =
       ap not s.requires.1.1.again-is ∙ sym (once-only (rule_of b) (rule-inverse (reading_in b)) e (letters_in b) λ n. omega (arith, ap length n, letters-length g.sized, s.requires.1.0)),
     )
 
-pub longest-at-spec : {M : Type 1} → statement M
-longest-at-spec = tie.close (tie.spec (λ c κs. header-fits c.before.requires.0.sized) returns)
+pub longest_at_spec : {M : Type 1} → statement M
+longest_at_spec = tie.close (tie.spec (λ c κs. header-fits c.before.requires.0.sized) returns)
