@@ -9,13 +9,13 @@ use Rattle.fasta_call.proofs.answer.Statement.{statement}
 use Rattle.fasta_call.proofs.answer.Tie as tie
 
 pack-requires : tie.Need-pack-requires
-pack-requires c κs = packs _ _ _ c.before.reading.given.1 c.before.before.before.requires
+pack-requires c κs = packs _ _ _ c.in-Accepted.is c.before.requires
 
-returns : tie.Need-returns
-returns c = c.pack.ensures ∙ ap (λ (r : Reading). packed (reading_reply r)) (sym c.before.before.reading.given.1)
+returns : tie.Need-returns-in-Accepted
+returns c = c.pack.ensures ∙ ap (λ (r : Reading). packed (reading_reply r)) (sym c.before.in-Accepted.is)
 
-returns-2 : tie.Need-returns-2
-returns-2 c = c.refuse.ensures ∙ ap (λ (r : Reading). packed (reading_reply r)) (sym c.before.before.reading2.given.1)
+returns-2 : tie.Need-returns-in-Refused
+returns-2 c = c.refuse.ensures ∙ ap (λ (r : Reading). packed (reading_reply r)) (sym c.before.in-Refused.is)
 
-pub answer-spec : {M : Type 1} → statement M
-answer-spec = tie.close (tie.spec (λ c. search rules) pack-requires (λ c. search rules) (λ c κs. search rules) returns returns-2)
+pub answer_spec : {M : Type 1} → statement M
+answer_spec = tie.close (tie.spec (λ c. search rules) pack-requires (λ c. search rules) (λ c κs. search rules) returns returns-2)

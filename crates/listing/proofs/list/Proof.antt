@@ -16,68 +16,68 @@ use Rattle.listing.proofs.list.Statement.{statement}
 use Rattle.listing.proofs.list.Tie as tie
 
 -- the entry, from behind the reading of the size; and each of the calls that follow, from behind the next
-abbrev from-size : tie.After-scratch-size → tie.Start
+abbrev from-size : tie.After-scratch_size-used → tie.Start
 from-size c = c.before.before.before.before.before
 
-abbrev from-clear : tie.After-clear → tie.After-scratch-size
+abbrev from-clear : tie.After-clear → tie.After-scratch_size-used
 from-clear c = c.before.before
 
-abbrev from-lines : tie.After-put-lines → tie.After-clear
+abbrev from-lines : tie.After-put_lines-at → tie.After-clear
 from-lines c = c.before.before.before.before.before
 
-abbrev from-again : tie.After-clear2 → tie.After-put-lines
+abbrev from-again : tie.After-clear-2 → tie.After-put_lines-at
 from-again c = c.before.before.before.before.before.before
 
 -- how many bytes of the scratch are cleared
-used : (c : tie.After-scratch-size) → c.scratch-size.result ≡ scratch_size (size_in (from-size c).args.b.now)
-used c = c.scratch-size.ensures ∙ ap scratch_size (letters-length (from-size c).requires.0.sized)
+used : (c : tie.After-scratch_size-used) → c.scratch_size-used.result ≡ scratch_size (size_in (from-size c).args.b.now)
+used c = c.scratch_size-used.ensures ∙ ap scratch_size (letters-length (from-size c).requires.0.sized)
 
 -- the scratch has so many
-fits : (c : tie.After-scratch-size) → c.scratch-size.result ≤ length (from-size c).args.scratch.now
-fits c = omega (arith, c.scratch-size.ensures, (from-size c).requires.1.1.0)
+fits : (c : tie.After-scratch_size-used) → c.scratch_size-used.result ≤ length (from-size c).args.scratch.now
+fits c = omega (arith, c.scratch_size-used.ensures, (from-size c).requires.1.1.0)
 
 -- cleared, they are the marks of a record of which no letter has been read, and enough for every rank
-unmarked : (c : tie.After-clear) → let b = (from-size (from-clear c)).args.b.now in ReadTo b 0 0 1 c.clear.new.0 × (size_in b ≤ 8 * length c.clear.new.0)
+unmarked : (c : tie.After-clear) → let b = (from-size (from-clear c)).args.b.now in ReadTo b 0 0 1 c.clear.new.bytes × (size_in b ≤ 8 * length c.clear.new.bytes)
 unmarked c =
     let t = from-clear c in
     let s = from-size t in
-    let n = t.scratch-size.result in
+    let n = t.scratch_size-used.result in
     let scratch = s.args.scratch.now in
     subst (λ (m : Word). ReadTo s.args.b.now 0 0 1 m × (size_in s.args.b.now ≤ 8 * length m)) (sym c.clear.ensures) (
-      reads_first s.pre.0 0 (sets scratch 0 (replicate n 0)) (λ i h k. noughts scratch n i (fits t) (omega (arith, used t, h))),
+      reads_first s.requires.0 0 (sets scratch 0 (replicate n 0)) (λ i h k. noughts scratch n i (fits t) (omega (arith, used t, h))),
       omega (arith, used t, fits t, length-sets scratch 0 (replicate n 0), (scratch-bits (size_in s.args.b.now)).0),
     )
 
-put-lines-requires : tie.Need-put-lines-requires
-put-lines-requires c κs =
+put_lines-requires : tie.Need-put_lines-at-requires
+put_lines-requires c κs =
     let t = c.before.before.before.before in
     let s = from-size (from-clear t) in
-    (s.pre.0, (s.pre.1.0, (unmarked t, s.pre.1.1.1)))
+    (s.requires.0, (s.requires.1.0, (unmarked t, s.requires.1.1.1)))
 
 returns : tie.Need-returns
 returns c =
     let q = c.before.before in
-    let lines = (from-again q).put-lines.ensures in
+    let lines = (from-again q).put_lines-at.ensures in
     let t = from-lines (from-again q) in
     let z = from-clear t in
     let s = from-size z in
-    let n = z.scratch-size.result in
+    let n = z.scratch_size-used.result in
     let scratch = s.args.scratch.now in (
-      q.clear2.ensures
+      q.clear-2.ensures
           ∙ lines.1.1 (replicate n 0) (omega (arith, used z, length-replicate {A = ℕ} n 0))
           ∙ ap (λ (l : Word). sets l 0 (replicate n 0)) t.clear.ensures
           ∙ sets-again scratch 0 (replicate n 0) 0 (replicate n 0) (omega arith) (omega arith)
-          ∙ ap (λ (m : ℕ). sets scratch 0 (replicate m 0)) z.scratch-size.ensures,
+          ∙ ap (λ (m : ℕ). sets scratch 0 (replicate m 0)) z.scratch_size-used.ensures,
       (lines.0, lines.1.0),
     )
 
-pub list-spec : {M : Type 1} → statement M
-list-spec =
+pub list_spec : {M : Type 1} → statement M
+list_spec =
     tie.close
     (tie.spec
     (λ c κs. search rules)
     (λ c κs. search rules)
-    put-lines-requires
+    put_lines-requires
     (λ c κs. search rules)
     (λ c. search rules)
     (λ c. search rules)

@@ -12,5 +12,5 @@ returns : tie.Need-returns
 unfolding scratch_size
 returns c = ap (λ n. (n + 7) / 8) (c.size.ensures.0 ∙ sym (letters-length c.before.before.requires.sized))
 
-pub scratch-size-spec : {M : Type 1} → statement M
-scratch-size-spec = tie.close (tie.spec (λ c κs. header-fits c.before.requires.sized) (λ c. search rules) returns)
+pub scratch_size_spec : {M : Type 1} → statement M
+scratch_size_spec = tie.close (tie.spec (λ c κs. header-fits c.before.requires.sized) (λ c. search rules) returns)

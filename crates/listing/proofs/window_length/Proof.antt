@@ -7,10 +7,10 @@ use Rattle.listing.proofs.Marking.{reads_first}
 use Rattle.listing.proofs.window_length.Statement.{statement}
 use Rattle.listing.proofs.window_length.Tie as tie
 
-add-lines-requires : tie.Need-add-lines-requires
-add-lines-requires c κs =
+add_lines-requires : tie.Need-add_lines-requires
+add_lines-requires c κs =
     let s = c.before.before.before in
     (s.requires.0, (s.requires.1, reads_first s.requires.0 s.args.from (replicate 43 0) λ i h k. get_or-replicate 43 i 0 0 (omega (arith, k, length-replicate {A = ℕ} 43 0))))
 
-pub window-length-spec : {M : Type 1} → statement M
-window-length-spec = tie.close (tie.spec (λ c. search rules) add-lines-requires (λ c. search rules))
+pub window_length_spec : {M : Type 1} → statement M
+window_length_spec = tie.close (tie.spec (λ c. search rules) add_lines-requires (λ c. search rules))
