@@ -6,17 +6,17 @@ use Rattle.audit.proofs.ends_right.Statement.{statement}
 use Rattle.audit.proofs.ends_right.Tie as tie
 
 -- the entry, from behind each test
-abbrev from-count : tie.Else1 → tie.Start
+abbrev from-count : tie.Else-count-tour → tie.Start
 from-count c = c.before.before.before.before.before
 
-abbrev from-left : tie.Else2 → tie.Start
+abbrev from-left : tie.Else-end_row-tour → tie.Start
 from-left c = from-count c.before.before.before
 
-abbrev from-right : tie.Else3 → tie.Start
+abbrev from-right : tie.Else-end_row-tour-2 → tie.Start
 from-right c = from-left c.before.before.before
 
-pub ends-right-spec : {M : Type 1} → statement M
-ends-right-spec =
+pub ends_right_spec : {M : Type 1} → statement M
+ends_right_spec =
     tie.close
     (tie.spec
     (λ c κs. header-fits c.before.before.requires.0)
