@@ -7,23 +7,23 @@ use Rattle.turning.proofs.turn.Statement.{statement}
 use Rattle.turning.proofs.turn.Tie as tie
 
 reading-requires : tie.Need-reading-requires
-reading-requires c κs = header-fits c.before.before.requires.sized
+reading-requires c κs = header-fits c.before.requires.sized
 
 -- the number of the reading asked for, and behind it that of the store
-abbrev at-reading : tie.After-reading-number → tie.After-reading
+abbrev at-reading : tie.After-reading_number → tie.After-reading
 at-reading c = c.before
 
-returns : tie.Need-returns
+returns : tie.Need-returns-then-reading-reading_number
 returns c =
     let called = c.before.before in
     let number = called.before.before.before in
-    let other = called.before.before.if1.true in
-    called.remake.ensures ∙ sym (turned-other _ _ (λ e. other ((at-reading number).reading.ensures.0 ∙ e ∙ sym number.reading-number.ensures)))
+    let other = called.before.before.if-reading-reading_number.true in
+    called.remake.ensures ∙ sym (turned-other _ _ (λ e. other ((at-reading number).reading.ensures.0 ∙ e ∙ sym number.reading_number.ensures)))
 
-returns-2 : tie.Need-returns-2
+returns-2 : tie.Need-returns-else-reading-reading_number
 returns-2 c =
     let number = c.before in
-    sym (turned_same _ _ (sym (at-reading number).reading.ensures.0 ∙ c.if1.false ∙ number.reading-number.ensures))
+    sym (turned_same _ _ (sym (at-reading number).reading.ensures.0 ∙ c.if-reading-reading_number.false ∙ number.reading_number.ensures))
 
 pub turn_spec : {M : Type 1} → statement M
 turn_spec = tie.close (tie.spec reading-requires (λ c κs. search rules) (λ c κs. search rules) (λ c. search rules) returns (λ c. search rules) returns-2)
