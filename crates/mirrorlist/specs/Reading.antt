@@ -6,4 +6,4 @@ use Rattle.mirrorlist.specs.declared.Input.TheVariants.{Read, Failed}
 -- the bytes that were read fit the buffer; a read that failed promises nothing
 abbrev pub Within : Input → (buffer : List ℕ) → Type 0
 Within (Read n) buffer = n ≤ length buffer
-Within Failed buffer = Unit
+Within (Failed error) buffer = Unit

@@ -7,7 +7,8 @@
 ghost use Rattle.std.specs.Prelude.{◌≡◌, length};
 ghost use Rattle.mirrorlist.specs.Reading.{Within};
 
-use libc::{STDIN_FILENO, STDOUT_FILENO};
+use std::io;
+use std::io::Read;
 
 // Room for a text. The `ensures` gives only the length, which lending the array as a slice needs.
 fn text_buffer() -> [u8; 65537]
@@ -27,39 +28,40 @@ fn lines_buffer() -> [u8; 46080]
 #[derive(Clone, Copy)]
 enum Input {
     Read(usize),
-    Failed,
+    Failed(io::Error),
 }
 
-// Reads standard input to its end, or until the buffer is full. The end is a read of no bytes. One
+// Reads its input to the end, or until the buffer is full. The end is a read of no bytes. One
 // that fails leaves open what was still to come, so what was read before it is not answered.
-fn read_input(text: &mut [u8]) -> Input
+fn read_input(from: &mut impl Read, text: &mut [u8]) -> Input
     ensures { Within result text.new }
 {
     let mut n = 0;
     while n < text.len() {
-        let got = libc::read(STDIN_FILENO, &mut text[n..]);
-        if got < 0 {
-            return Input::Failed;
+        match from.read(&mut text[n..]) {
+            Err(error) => return Input::Failed(error),
+            Ok(0) => break,
+            Ok(more) => n += more,
         }
-        let more = io::count(got, &text[n..]);
-        if more == 0 {
-            break;
-        }
-        n += more;
     }
     Input::Read(n)
 }
 
-fn main() {
+// Tells on standard error what failed, and why.
+fn fail(rt: &impl Eprint, what: &str, error: io::Error) -> io::Result<()> {
+    eprintln!(rt; "mirrorlist: {what}: {error}")
+}
+
+fn main(rt: HostRuntime) -> io::Result<()> {
     let mut text = text_buffer();
-    let input = read_input(&mut text);
-    let Input::Read(n) = input else {
-        os::fail(b"mirrorlist: standard input");
-        return;
+    let n = match read_input(&mut rt.stdin(), &mut text) {
+        Input::Read(n) => n,
+        Input::Failed(error) => return fail(&rt, "standard input", error),
     };
     let mut out = lines_buffer();
     let m = printing::print(&text[..n], &mut out);
-    if !io::write_all(STDOUT_FILENO, &out[..m]) {
-        os::fail(b"mirrorlist: standard output");
+    match rt.write_all(&out[..m]) {
+        Ok(()) => Ok(()),
+        Err(error) => fail(&rt, "standard output", error),
     }
 }

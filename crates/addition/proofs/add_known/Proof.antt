@@ -14,37 +14,37 @@ use Rattle.addition.proofs.add_known.Statement.{statement}
 use Rattle.addition.proofs.add_known.Tie as tie
 
 -- the place behind each call, from the place behind the next
-abbrev entry : tie.After-frame-of → tie.Start
-entry c = c.before.before.before
+abbrev entry : tie.After-frame_of-f → tie.Start
+entry c = c.before.before
 
-abbrev at-frame : tie.After-length-of → tie.After-frame-of
-at-frame c = c.before.before
+abbrev at-frame : tie.After-length_of-longest → tie.After-frame_of-f
+at-frame c = c.before
 
-abbrev at_length : tie.After-across → tie.After-length-of
-at_length c = c.before.before.before
+abbrev at_length : tie.After-across-opposite → tie.After-length_of-longest
+at_length c = c.before.before
 
-abbrev at-across : tie.After-join → tie.After-across
+abbrev at-across : tie.After-join → tie.After-across-opposite
 at-across c = c.before.before
 
 abbrev at_join : tie.After-settle → tie.After-join
 at_join c = c.before.before.before.before.before
 
-length-of-requires : tie.Need-length-of-requires
-length-of-requires c κs =
-    let s = entry c.before in
-    used-fits s.pre.0 s.args.q s.pre.1.1.used
+length_of-requires : tie.Need-length_of-longest-requires
+length_of-requires c κs =
+    let s = entry c in
+    used-fits s.requires.0 s.args.q s.requires.1.1.used
 
-across-requires : tie.Need-across-requires
+across-requires : tie.Need-across-opposite-requires
 across-requires c κs =
-    let f = at-frame c.before.before in
-    let p = (entry f).pre in
-    (header-fits p.0.sized, omega (arith, f.frame-of.ensures.size_is, p.0.sized.at_most, p.1.0))
+    let f = at-frame c.before in
+    let p = (entry f).requires in
+    (header-fits p.0.sized, omega (arith, f.frame_of-f.ensures.size_is, p.0.sized.at_most, p.1.0))
 
 join-requires : tie.Need-join-requires
 join-requires c κs =
     let f = at-frame (at_length c.before) in
-    let p = (entry f).pre in
-    omega (arith, f.frame-of.ensures.base-is, f.frame-of.ensures.size_is, store_long p.0.sized, p.1.0)
+    let p = (entry f).requires in
+    omega (arith, f.frame_of-f.ensures.base-is, f.frame_of-f.ensures.size_is, store_long p.0.sized, p.1.0)
 
 settle-requires : tie.Need-settle-requires
 settle-requires c κs =
@@ -57,18 +57,18 @@ returns c =
     let settled = c.before.before in
     let j = at_join settled in
     let x = at-across j in
-    let l = (at_length x).length-of.ensures in
-    let f = (at-frame (at_length x)).frame-of.ensures in
+    let l = (at_length x).length_of-longest.ensures in
+    let f = (at-frame (at_length x)).frame_of-f.ensures in
     let s = entry (at-frame (at_length x)) in
     let a = s.args in
-    let g = s.pre.0 in
-    let old = s.pre.1.1 in
+    let g = s.requires.0 in
+    let old = s.requires.1.1 in
     let longest = kept l.1 ∙ l.0 ∙ g.table.length-is a.q old.used ∙ ap length_of old.holds in
     added-known a.b.now (end_of a.side) a.c g a.q f.base-is f.size_is old
-    (x.across.ensures (length (longest_after (end_of a.side) a.c a.b.now)) longest) j.join.ensures settled.settle.ensures
+    (x.across-opposite.ensures (length (longest_after (end_of a.side) a.c a.b.now)) longest) j.join.ensures settled.settle.ensures
 
-pub add-known-spec : {M : Type 1} → statement M
-add-known-spec =
+pub add_known_spec : {M : Type 1} → statement M
+add_known_spec =
     tie.close
-    (tie.spec (λ c κs. search rules) length-of-requires (λ c. search rules) across-requires join-requires (λ c. search rules) settle-requires
+    (tie.spec (λ c κs. search rules) length_of-requires (λ c. search rules) across-requires join-requires (λ c. search rules) settle-requires
     (λ c. search rules) returns)

@@ -24,14 +24,14 @@ step-requires c κs =
     let s = c.before.before.before in
     let p = s.requires.0 in (
       framed-within p.framed p.sized s.args.k (omega (arith, p.more)),
-      (subst (Chain s.args.b.now) (sym c.link-of.ensures.0) (chain_next p.chain c.before.if1.false).1, s.requires.1),
+      (subst (Chain s.args.b.now) (sym c.link_of.ensures.0) (chain_next p.chain c.before.if-u-eq-IMAGINARY.false).1, s.requires.1),
     )
 
-returns-2 : tie.Need-returns-2
+returns-2 : tie.Need-returns
 returns-2 c =
     let s = c.before.before.before.before in
-    let link = c.before.link-of in
-    stepped s.requires.0.framed s.args.k s.args.d s.args.u link.result c.step.result c.before.before.if1.false link.ensures.0 c.step.ensures
+    let link = c.before.link_of in
+    stepped s.requires.0.framed s.args.k s.args.d s.args.u link.result c.step.result c.before.before.if-u-eq-IMAGINARY.false link.ensures.0 c.step.ensures
 
-pub link-found-spec : {M : Type 1} → statement M
-link-found-spec = tie.close (tie.spec (λ c. alone c.if1.true refl) (λ c κs. chain_fits c.before.before.requires.0.chain) step-requires returns-2)
+pub link_found_spec : {M : Type 1} → statement M
+link_found_spec = tie.close (tie.spec (λ c. alone c.if-u-eq-IMAGINARY.true refl) (λ c κs. chain_fits c.before.before.requires.0.chain) step-requires returns-2)

@@ -26,7 +26,7 @@ module _ (b : Word) (u q : ℕ) {short long around : ℤ} (x : (short ≡ length
   unfolding length_in
   longer e =
       let small = number_is x.1 (cell b u 0) x.0 in
-      let back : to_z w32 (of_z w32 around) ≡ around = to_z-of_z (rw around-is (length-fits (cell b u 0 + 2) (omega (arith, x.1.small)))) in
+      let back : to_z w32 (of_z w32 around) ≡ around = to_z-of_z {w = w32} (rw around-is (length-fits (cell b u 0 + 2) (omega (arith, x.1.small)))) in
       sym (number_is y.1 (cell b q 0) y.0) ∙ number_is y.1 (cell b u 0 + 2) (sym (kept y.1) ∙ ap (to_z w32) e ∙ back ∙ around-is)
 
   -- and the other way round
@@ -34,11 +34,11 @@ module _ (b : Word) (u q : ℕ) {short long around : ℤ} (x : (short ≡ length
   unfolding length_in
   longer-bits e = ap (of_z w32) (y.0 ∙ ap (λ (m : ℕ). pred_ℤ (pos m)) e ∙ sym around-is)
 
-returns : tie.Need-returns
-returns c e = let a = c.before.before.before.before.before.args in c.if1.true (longer-bits a.b.now a.u a.q c.before.before.before.length-of.ensures c.before.length-of2.ensures c.before.before.plus-two.ensures e)
+returns : tie.Need-returns-then-length-around
+returns c e = let a = c.before.before.before.before.before.args in c.if-length-around.true (longer-bits a.b.now a.u a.q c.before.before.before.length_of.ensures c.before.length_of-length.ensures c.before.before.plus_two-around.ensures e)
 
-returns-2 : tie.Need-returns-2
-returns-2 c = let a = c.before.before.before.before.before.args in longer a.b.now a.u a.q c.before.before.before.length-of.ensures c.before.length-of2.ensures c.before.before.plus-two.ensures c.if1.false
+returns-2 : tie.Need-returns
+returns-2 c = let a = c.before.before.before.before.before.args in longer a.b.now a.u a.q c.before.before.before.length_of.ensures c.before.length_of-length.ensures c.before.before.plus_two-around.ensures c.if-length-around.false
 
-pub longer-by-two-spec : {M : Type 1} → statement M
-longer-by-two-spec = tie.close (tie.spec (λ c κs. search rules) (λ c κs. search rules) (λ c κs. search rules) returns returns-2)
+pub longer_by_two_spec : {M : Type 1} → statement M
+longer_by_two_spec = tie.close (tie.spec (λ c κs. search rules) (λ c κs. search rules) (λ c κs. search rules) returns returns-2)

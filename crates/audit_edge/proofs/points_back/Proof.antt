@@ -6,17 +6,17 @@ use Rattle.transitions.proofs.Rows.{row_fits}
 use Rattle.audit_edge.proofs.points_back.Statement.{statement}
 use Rattle.audit_edge.proofs.points_back.Tie as tie
 
-pub points-back-spec : {M : Type 1} → statement M
-points-back-spec =
+pub points_back_spec : {M : Type 1} → statement M
+points_back_spec =
     tie.close
     (tie.spec
     (λ c. search rules)
     (λ c κs. header-fits c.before.before.requires)
     (λ c. search rules)
     (λ c. search rules)
-    (λ c κs. row_fits c.before.before.before.before.requires c.before.before.before.before.args.q (omega (arith, c.if2.false, c.before.capacity.ensures.0)))
+    (λ c κs. row_fits c.before.before.before.before.requires c.before.before.before.before.args.q (omega (arith, c.if-capacity-q.false, c.before.capacity.ensures.0)))
     (λ c. search rules)
-    (λ c κs. row_fits c.before.before.before.before.before.before.requires c.before.before.before.before.before.before.args.q (omega (arith, c.before.before.if2.false, c.before.before.before.capacity.ensures.0)))
+    (λ c κs. row_fits c.before.before.before.before.before.before.requires c.before.before.before.before.before.before.args.q (omega (arith, c.before.before.if-capacity-q.false, c.before.before.before.capacity.ensures.0)))
     (λ c κs. search rules)
     (λ c. search rules)
     (λ c. search rules))

@@ -9,41 +9,41 @@ use Rattle.audit_lengths.proofs.count_row.Statement.{statement}
 use Rattle.audit_lengths.proofs.count_row.Tie as tie
 
 -- the entry, from behind the reading of the length, and the place that is read
-abbrev entry : tie.After-to-stored → tie.Start
+abbrev entry : tie.After-to_stored-place → tie.Start
 entry c = c.before.before.before.before
 
-place : (c : tie.After-to-stored) → c.to-stored.result ≡ cell (entry c).args.b.now (entry c).args.q 0
+place : (c : tie.After-to_stored-place) → c.to_stored-place.result ≡ cell (entry c).args.b.now (entry c).args.q 0
 unfolding length_in
-place c = c.to-stored.ensures (cell (entry c).args.b.now (entry c).args.q 0) (kept c.before.length-of.ensures.1 ∙ c.before.length-of.ensures.0)
+place c = c.to_stored-place.ensures (cell (entry c).args.b.now (entry c).args.q 0) (kept c.before.length_of.ensures.1 ∙ c.before.length_of.ensures.0)
 
-slice-read-carried : tie.Need-slice-read-carried
-slice-read-carried c = let p = (entry c.before).requires in omega (arith, place c.before, p.long, p.most)
+slice_read-carried : tie.Need-bounds-carried-place
+slice_read-carried c = let p = (entry c.before).requires in omega (arith, place c.before, p.long, p.most)
 
-add-carried : tie.Need-overflow-add-carried
+add-carried : tie.Need-overflow_add-carried
 add-carried c = let p = (entry c.before).requires in omega (arith, rw (← place c.before) at p.few)
 
-returns : tie.Need-returns
+returns : tie.Need-returns-then-carried-length
 returns c =
     let read = c.before.before.before in
     let p = (entry read).requires in
-    rw (← place read) (counted-above (entry read).args.carried.now read.to-stored.result p.long (omega (arith, place read, p.some)) (omega (arith, place read, p.most)) c.if1.true)
+    rw (← place read) (counted-above (entry read).args.carried.now read.to_stored-place.result p.long (omega (arith, place read, p.some)) (omega (arith, place read, p.most)) c.if-carried-length.true)
 
-returns-2 : tie.Need-returns-2
+returns-2 : tie.Need-returns-else-carried-length
 returns-2 c =
     let read = c.before.before.before in
     let p = (entry read).requires in
-    rw (← place read) (counted-below (entry read).args.carried.now read.to-stored.result p.long (omega (arith, place read, p.some)) (omega (arith, place read, p.most)) (λ h. omega (arith, c.if1.false)))
+    rw (← place read) (counted-below (entry read).args.carried.now read.to_stored-place.result p.long (omega (arith, place read, p.some)) (omega (arith, place read, p.most)) (λ h. omega (arith, c.if-carried-length.false)))
 
-pub count-row-spec : {M : Type 1} → statement M
-count-row-spec =
+pub count_row_spec : {M : Type 1} → statement M
+count_row_spec =
     tie.close
     (tie.spec
     (λ c κs. search rules)
     (λ c κs. search rules)
     (λ c. omega (arith, place c, (entry c).requires.most))
-    slice-read-carried
+    slice_read-carried
     add-carried
-    slice-read-carried
+    (λ c. omega (arith, place c.before, (entry c.before).requires.long, (entry c.before).requires.most))
     (λ c. omega (arith, place c.before, (entry c.before).requires.some))
     (λ c. omega (arith, place c.before, (entry c.before).requires.most))
     (λ c. search rules)

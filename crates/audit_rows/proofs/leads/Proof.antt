@@ -7,15 +7,15 @@ use Rattle.audit_rows.proofs.Edges.{leads-is, leads-not}
 use Rattle.audit_rows.proofs.leads.Statement.{statement}
 use Rattle.audit_rows.proofs.leads.Tie as tie
 
-returns : tie.Need-returns
+returns : tie.Need-returns-then-edge_of-ne0
 returns c =
     let a = c.before.before.before.args in
-    (sym (ap one (leads-is a.b.now a.c a.r (λ e. c.if1.true (c.before.Edge-of.ensures.0 ∙ e)))), omega arith)
+    (sym (ap one (leads-is a.b.now a.c a.r (λ e. c.if-edge_of-ne0.true (c.before.edge_of.ensures.0 ∙ e)))), omega arith)
 
-returns-2 : tie.Need-returns-2
+returns-2 : tie.Need-returns
 returns-2 c =
     let a = c.before.before.before.args in
-    (sym (ap one (leads-not a.b.now a.c a.r (sym c.before.Edge-of.ensures.0 ∙ c.if1.false))), omega arith)
+    (sym (ap one (leads-not a.b.now a.c a.r (sym c.before.edge_of.ensures.0 ∙ c.if-edge_of-ne0.false))), omega arith)
 
-pub leads-spec : {M : Type 1} → statement M
-leads-spec = tie.close (tie.spec (λ c κs. search rules) returns returns-2)
+pub leads_spec : {M : Type 1} → statement M
+leads_spec = tie.close (tie.spec (λ c κs. search rules) returns returns-2)

@@ -45,29 +45,29 @@ record Passed (b carried : Word) (capacity end edges said r : ℕ) : Type 0 wher
   said-is : said ≡ count_below (filled b) r
   said-few : said ≤ r
 
-abbrev invariant-loop : tie.invariant-loop
+abbrev invariant-loop : tie.invariant-loop-r
 invariant-loop b carried met capacity end edges₀ said₀ r₀ edges said r = Passed b carried capacity end edges said r
 
-abbrev decreases-loop : tie.decreases-loop
+abbrev decreases-loop : tie.decreases-loop-r
 decreases-loop b carried met capacity end edges₀ said₀ r₀ edges said r = end - r
 
 -- the entry, from the loop
-abbrev from-loop : tie.At-loop invariant-loop decreases-loop → tie.Start invariant-loop decreases-loop
+abbrev from-loop : tie.At-loop-r invariant-loop decreases-loop → tie.Start invariant-loop decreases-loop
 from-loop c = c.before.before.before.before.before.before
 
 -- the row at hand
-at_row : (c : tie.In-loop invariant-loop decreases-loop) → RowAt (from-loop c.before).args.b.now (from-loop c.before).args.carried.now c.before.before.before.before.capacity.result c.before.loop.r
+at_row : (c : tie.In-loop-r invariant-loop decreases-loop) → RowAt (from-loop c.before).args.b.now (from-loop c.before).args.carried.now c.before.before.before.before.capacity-capacity.result c.before.loop-r.r
 at_row c =
-    let h = c.before.loop.invariant in
-    let p = (from-loop c.before).pre in
-    record { sized = p.0; capacity-is = h.capacity-is; low = h.low; inside = omega (arith, c.loop-test.true, h.end_is); long = p.1 }
+    let h = c.before.loop-r.invariant in
+    let p = (from-loop c.before).requires in
+    record { sized = p.0; capacity-is = h.capacity-is; low = h.low; inside = omega (arith, c.loop-r-test.true, h.end_is); long = p.1 }
 
-loop-holds : tie.Need-loop-init invariant-loop decreases-loop
+loop-holds : tie.Need-loop-r-init invariant-loop decreases-loop
 loop-holds c =
-    let first = c.before.edges-of.ensures in
-    let second = c.edges-of2.ensures in
+    let first = c.before.edges_of.ensures in
+    let second = c.edges_of-2.ensures in
     let b = c.before.before.before.before.before.args.b.now in
-    let capacity = c.before.before.capacity.ensures in
+    let capacity = c.before.before.capacity-capacity.ensures in
     record {
       capacity-is = capacity.0;
       end_is = ap (λ (x : ℕ). x + 2) capacity.0;
@@ -81,24 +81,24 @@ loop-holds c =
     }
 
 -- the row's place within the store
-row_inside : tie.Need-edges-of-requires-3 invariant-loop decreases-loop
-row_inside c κs = let a = at_row c.before.before in row_fits a.sized c.before.before.before.loop.r a.inside
+row_inside : tie.Need-edges_of-edges-requires invariant-loop decreases-loop
+row_inside c κs = let a = at_row c.before.before in row_fits a.sized c.before.before.before.loop-r.r a.inside
 
-loop-again : tie.Need-loop-preserved invariant-loop decreases-loop
+loop-again : tie.Need-loop-r-preserved invariant-loop decreases-loop
 loop-again c =
-    let edges = c.before.edges-of3.ensures in
-    let said = c.says.ensures in
+    let edges = c.before.edges_of-edges.ensures in
+    let said = c.says-said.ensures in
     let tested = c.before.before in
     let l = tested.before.before in
-    let h = l.before.loop.invariant in
+    let h = l.before.loop-r.invariant in
     let s = from-loop l.before in
-    let r = l.before.loop.r in
+    let r = l.before.loop-r.r in
     record {
       capacity-is = h.capacity-is;
       end_is = h.end_is;
       low = omega (arith, h.low);
-      most = omega (arith, l.loop-test.true);
-      so_far = below_more (λ (j : ℕ). 2 ≤ j → RowRight s.args.b.now s.args.carried.now j) r h.so_far (λ k. holds _ tested.before.row-right.result tested.before.row-right.ensures tested.if1.false);
+      most = omega (arith, l.loop-r-test.true);
+      so_far = below_more (λ (j : ℕ). 2 ≤ j → RowRight s.args.b.now s.args.carried.now j) r h.so_far (λ k. holds _ tested.before.row_right.result tested.before.row_right.ensures tested.if-not-row_right.false);
       edges-is = omega (arith, edges.0, h.edges-is, edges-next s.args.b.now r);
       edges_few = omega (arith, edges.1, h.edges_few);
       said-is = omega (arith, said.0, h.said-is, said-next s.args.b.now r);
@@ -106,48 +106,48 @@ loop-again c =
     }
 
 -- behind the loop all rows are passed
-abbrev all : tie.After-loop invariant-loop decreases-loop → tie.Start invariant-loop decreases-loop
+abbrev all : tie.After-loop-r invariant-loop decreases-loop → tie.Start invariant-loop decreases-loop
 all c = from-loop c.before
 
-last : (c : tie.After-loop invariant-loop decreases-loop) → c.before.loop.r ≡ capacity_in (all c).args.b.now + 2
-last c = omega (arith, c.loop-test.false, c.before.loop.invariant.most, c.before.loop.invariant.end_is)
+last : (c : tie.After-loop-r invariant-loop decreases-loop) → c.before.loop-r.r ≡ capacity_in (all c).args.b.now + 2
+last c = omega (arith, c.loop-r-test.false, c.before.loop-r.invariant.most, c.before.loop-r.invariant.end_is)
 
-edges-all : (c : tie.After-loop invariant-loop decreases-loop) → c.before.loop.edges ≡ edges_below (all c).args.b.now (capacity_in (all c).args.b.now + 2)
-edges-all c = c.before.loop.invariant.edges-is ∙ ap (edges_below (all c).args.b.now) (last c)
+edges-all : (c : tie.After-loop-r invariant-loop decreases-loop) → c.before.loop-r.edges ≡ edges_below (all c).args.b.now (capacity_in (all c).args.b.now + 2)
+edges-all c = c.before.loop-r.invariant.edges-is ∙ ap (edges_below (all c).args.b.now) (last c)
 
-said_all : (c : tie.After-loop invariant-loop decreases-loop) → c.before.loop.said ≡ count_below (filled (all c).args.b.now) (capacity_in (all c).args.b.now + 2)
-said_all c = c.before.loop.invariant.said-is ∙ ap (count_below (filled (all c).args.b.now)) (last c)
+said_all : (c : tie.After-loop-r invariant-loop decreases-loop) → c.before.loop-r.said ≡ count_below (filled (all c).args.b.now) (capacity_in (all c).args.b.now + 2)
+said_all c = c.before.loop-r.invariant.said-is ∙ ap (count_below (filled (all c).args.b.now)) (last c)
 
-returns-4 : tie.Need-returns-4 invariant-loop decreases-loop
+returns-4 : tie.Need-returns invariant-loop decreases-loop
 returns-4 c =
     let l = c.before.before in
     record {
-      each = λ r k i. l.before.loop.invariant.so_far r (omega (arith, last l)) k;
-      edges = sym (edges-all l) ∙ c.before.if2.false;
-      said = sym (said_all l) ∙ c.if3.false;
+      each = λ r k i. l.before.loop-r.invariant.so_far r (omega (arith, last l)) k;
+      edges = sym (edges-all l) ∙ c.before.if-edges-met.false;
+      said = sym (said_all l) ∙ c.if-said-met.false;
     }
 
-pub rows-right-spec : {M : Type 1} → statement M
-rows-right-spec =
+pub rows_right_spec : {M : Type 1} → statement M
+rows_right_spec =
     tie.close
     (tie.spec
     invariant-loop
     decreases-loop
     (λ c κs. header-fits c.before.before.requires.0)
-    (λ c. omega (arith, c.capacity.ensures.1))
+    (λ c. omega (arith, c.capacity-capacity.ensures.1))
     (λ c κs. omega (arith, header-fits c.before.before.before.requires.0))
     (λ c κs. omega (arith, header-fits c.before.before.before.before.requires.0))
-    (λ c. omega (arith, c.before.edges-of.ensures.1, c.edges-of2.ensures.1))
+    (λ c. omega (arith, c.before.edges_of.ensures.1, c.edges_of-2.ensures.1))
     loop-holds
     (λ c κs. at_row c)
-    (λ c h. let l = c.before.before in let a = at_row l in fails _ c.before.row-right.result c.before.row-right.ensures c.if1.true (h.each l.before.loop.r a.low a.inside))
+    (λ c h. let l = c.before.before in let a = at_row l in fails _ c.before.row_right.result c.before.row_right.ensures c.if-not-row_right.true (h.each l.before.loop-r.r a.low a.inside))
     row_inside
-    (λ c. let l = c.before.before.before in let a = at_row l in omega (arith, c.edges-of3.ensures.1, l.before.loop.invariant.edges_few, a.inside, a.sized.at_most))
-    (λ c κs. let a = at_row c.before.before.before in (row_fits a.sized c.before.before.before.before.loop.r a.inside, a.low))
-    (λ c. let l = c.before.before.before.before in let a = at_row l in omega (arith, c.says.ensures.1, l.before.loop.invariant.said-few, a.inside, a.sized.at_most))
+    (λ c. let l = c.before.before.before in let a = at_row l in omega (arith, c.edges_of-edges.ensures.1, l.before.loop-r.invariant.edges_few, a.inside, a.sized.at_most))
+    (λ c κs. let a = at_row c.before.before.before in (row_fits a.sized c.before.before.before.before.loop-r.r a.inside, a.low))
+    (λ c. let l = c.before.before.before.before in let a = at_row l in omega (arith, c.says-said.ensures.1, l.before.loop-r.invariant.said-few, a.inside, a.sized.at_most))
     (λ c. let a = at_row c.before.before.before.before in omega (arith, a.inside, a.sized.at_most))
-    (λ c. let l = c.before.before.before.before in omega (arith, l.loop-test.true))
+    (λ c. let l = c.before.before.before.before in omega (arith, l.loop-r-test.true))
     loop-again
-    (λ c h. c.if2.true (edges-all c.before ∙ h.edges))
-    (λ c h. c.if3.true (said_all c.before.before ∙ h.said))
+    (λ c h. c.if-edges-met.true (edges-all c.before ∙ h.edges))
+    (λ c h. c.if-said-met.true (said_all c.before.before ∙ h.said))
     returns-4)

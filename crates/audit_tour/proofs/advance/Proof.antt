@@ -31,20 +31,20 @@ module _ {b : Word} {f : Frame} (h : Frames b f) (k : ℕ) where
   met {d} {r} {n} {o} m = subst₂ (λ (t : Word) (want : ℕ). Meets b t k d want r n o) (framed-right h) (framed-rule h d) m
 
 -- the entry, from behind the walk
-abbrev entry : tie.After-walk → tie.Start
+abbrev entry : tie.After-walk-search → tie.Start
 entry c = c.before.before.before.before.before.before
 
 -- the partner of the letter
-wanted : (c : tie.After-partner-in) → c.partner-in.result ≡ partner_in c.before.before.before.before.before.args.f c.before.standing.result
-wanted c = c.partner-in.ensures ∙ c.before.before.before.before.before.requires.0.1 c.before.standing.result (search rules)
+wanted : (c : tie.After-partner_in-want) → c.partner_in-want.result ≡ partner_in c.before.before.before.before.before.args.f c.before.standing-d.result
+wanted c = c.partner_in-want.ensures ∙ c.before.before.before.before.before.requires.0.1 c.before.standing-d.result (search rules)
 
-standing-requires : tie.Need-standing-requires
+standing-requires : tie.Need-standing-d-requires
 standing-requires c κs =
     let s = c.before.before.before in
     let w = framed-within s.requires.0.0 s.requires.1.ready.sized (s.args.k + 1) (omega (arith, s.requires.1.more)) in
     (w.letters, omega (arith, w.read))
 
-walk-requires : tie.Need-walk-requires
+walk-requires : tie.Need-walk-search-requires
 walk-requires c κs =
     let s = c.before.before.before.before.before in
     let r = s.requires.1 in
@@ -52,25 +52,25 @@ walk-requires c κs =
 
 enter-requires : tie.Need-enter-requires
 enter-requires c κs =
-    let found = c.before.before.before in
-    let w = found.before.before in
+    let found = c.before.before in
+    let w = found.before in
     let p = (entry w).requires in
-    let e = letter p.0.0 (entry w).args.k w.before.before.standing.ensures in
-    let m = met p.0.0 (entry w).args.k w.walk.ensures in
-    ((p.0.0, wanted w.before), (p.1, tour-grows p.1 e m found.met.given.0.0 found.met.given.1))
+    let e = letter p.0.0 (entry w).args.k w.before.before.standing-d.ensures in
+    let m = met p.0.0 (entry w).args.k w.walk-search.ensures in
+    ((p.0.0, wanted w.before), (p.1, tour-grows p.1 e m found.in-At.u found.in-At.is))
 
-returns-2 : tie.Need-returns-2
+returns-2 : tie.Need-returns-in-Nothing
 returns-2 c =
     let told = c.before.before in
-    let w = told.before.before in
+    let w = told.before in
     let p = (entry w).requires in
-    let e = letter p.0.0 (entry w).args.k w.before.before.standing.ensures in
+    let e = letter p.0.0 (entry w).args.k w.before.before.standing-d.ensures in
     let t = (entry w).args.tour in
-    tour-none p.1 e (met p.0.0 (entry w).args.k w.walk.ensures) told.enum_told.given.1
-    (subst (λ (x : Reach). Arrived t 1 true x t.met c.arrive.result) c.before.reach-at.ensures c.arrive.ensures)
+    tour-none p.1 e (met p.0.0 (entry w).args.k w.walk-search.ensures) told.in-Nothing.is
+    (subst (λ (x : Reach). Arrived t 1 true x t.met c.arrive.result) c.before.reach_at-left.ensures c.arrive.ensures)
 
-pub advance-spec : {M : Type 1} → statement M
-advance-spec =
+pub advance_spec : {M : Type 1} → statement M
+advance_spec =
     tie.close
     (tie.spec
     standing-requires

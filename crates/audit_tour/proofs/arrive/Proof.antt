@@ -6,5 +6,5 @@ use Rattle.audit_tour.proofs.arrive.Tie as tie
 returns : tie.Need-returns
 returns c = record { left_is = refl; right_is = refl; met-is = refl }
 
-pub arrive-spec : {M : Type 1} → statement M
-arrive-spec = tie.close (tie.spec returns)
+pub arrive_spec : {M : Type 1} → statement M
+arrive_spec = tie.close (tie.spec returns)

@@ -32,93 +32,93 @@ module _ {b marks carried : Word} {k : ℕ} {t : Tour} (s : Reading b marks carr
   mark_of q r = omega (arith, s.toured.long, r.high, s.ready.sized.at_most)
 
 -- the entry, from behind the first test, and what is known there: the row names the edge
-abbrev from_back : tie.Else1 → tie.Start
+abbrev from_back : tie.Else-not-points_back → tie.Start
 from_back c = c.before.before.before.before.before.before
 
-named : (c : tie.Else1) → PointsBack (from_back c).args.b.now (from_back c).args.u (from_back c).args.d c.before.before.Edge-of.result
-named c = holds _ c.before.points-back.result c.before.points-back.ensures c.if1.false
+named : (c : tie.Else-not-points_back) → PointsBack (from_back c).args.b.now (from_back c).args.u (from_back c).args.d c.before.before.edge_of-q.result
+named c = holds _ c.before.points_back.result c.before.points_back.ensures c.if-not-points_back.false
 
 -- the first test, from behind the second and from behind the third
-abbrev back : tie.Else2 → tie.Else1
+abbrev back : tie.Else-marks-q-eq1 → tie.Else-not-points_back
 back c = c.before.before
 
-abbrev back-of-new : tie.Else3 → tie.Else1
+abbrev back-of-new : tie.Else-not-new_row_right → tie.Else-not-points_back
 back-of-new c = back c.before.before
 
-edge-of-requires : tie.Need-edge-of-requires
-edge-of-requires c κs =
+edge_of-requires : tie.Need-edge_of-q-requires
+edge_of-requires c κs =
     let s = c.before.before.before in
     let p = s.requires in
     rows_fit p.1.0.ready.sized s.args.u (p.1.0.toured.used s.args.u p.1.1.met)
 
-returns : tie.Need-returns
+returns : tie.Need-returns-then-not-points_back
 returns c g =
     let p = c.before.before.before.before.before.before.requires in
-    fails _ c.before.points-back.result c.before.points-back.ensures c.if1.true (good-back p.1.0 p.1.1 g c.before.before.Edge-of.ensures.0)
+    fails _ c.before.points_back.result c.before.points_back.ensures c.if-not-points_back.true (good-back p.1.0 p.1.1 g c.before.before.edge_of-q.ensures.0)
 
-slice-read-if2 : tie.Need-slice-read-if2
-slice-read-if2 c = mark_of (from_back c.before).requires.1.0 c.before.before.before.Edge-of.result (named c.before)
+slice_read-if2 : tie.Need-bounds-marks-q
+slice_read-if2 c = mark_of (from_back c.before).requires.1.0 c.before.before.before.edge_of-q.result (named c.before)
 
 -- from behind what is known of the left end, at a row met before: its mark, and the first test
-abbrev marked : tie.After-reach-at → tie.Then2
+abbrev marked : tie.After-reach_at → tie.Then-marks-q-eq1
 marked c = c.before
 
-abbrev first_of : tie.Then2 → tie.Else1
+abbrev first_of : tie.Then-marks-q-eq1 → tie.Else-not-points_back
 first_of c = c.before.before
 
-returns-2 : tie.Need-returns-2
+returns-2 : tie.Need-returns-then-marks-q-eq1
 returns-2 c =
     let left = c.before in
     let t = marked left.before in
     let first = first_of t in
-    let s = (from_back first).pre.1 in
-    tour-old s.0 s.1 (named first) t.if2.taken (rw left.before.reach-at.ensures at left.left-known.ensures) c.arrive.ensures
+    let s = (from_back first).requires.1 in
+    tour-old s.0 s.1 (named first) t.if-marks-q-eq1.true (rw left.before.reach_at.ensures at left.left_known-known.ensures) c.arrive.ensures
 
-new-row-right-requires : tie.Need-new-row-right-requires
-new-row-right-requires c κs =
+new_row_right-requires : tie.Need-new_row_right-requires
+new_row_right-requires c κs =
     let p = (from_back (back c)).requires in
     (grown-walkable p.1.0 p.1.1 p.0.0, ((named (back c)).high, p.0.1))
 
-returns-3 : tie.Need-returns-3
+returns-3 : tie.Need-returns-then-not-new_row_right
 returns-3 c g =
     let first = back c.before.before in
     let s = from_back first in
     let a = s.args in
-    let q = first.before.before.Edge-of in
-    let new = c.before.new-row-right in
-    good_new s.pre.1.0 s.pre.1.1 g q.ensures.0 (subst (NewRow a.b.now a.k a.d a.u q.result) (not-true new.result c.if3.true) new.ensures)
+    let q = first.before.before.edge_of-q in
+    let new = c.before.new_row_right in
+    good_new s.requires.1.0 s.requires.1.1 g q.ensures.0 (subst (NewRow a.b.now a.k a.d a.u q.result) c.if-not-new_row_right.true new.ensures)
 
 -- the row is right
-right : (c : tie.Else3) → NewRow (from_back (back-of-new c)).args.b.now (from_back (back-of-new c)).args.k (from_back (back-of-new c)).args.d (from_back (back-of-new c)).args.u (back-of-new c).before.before.Edge-of.result true
+right : (c : tie.Else-not-new_row_right) → NewRow (from_back (back-of-new c)).args.b.now (from_back (back-of-new c)).args.k (from_back (back-of-new c)).args.d (from_back (back-of-new c)).args.u (back-of-new c).before.before.edge_of-q.result true
 right c =
     let first = back-of-new c in
     let a = (from_back first).args in
-    let new = c.before.new-row-right in
-    subst (NewRow a.b.now a.k a.d a.u first.before.before.Edge-of.result) (not-false new.result c.if3.false) new.ensures
+    let new = c.before.new_row_right in
+    subst (NewRow a.b.now a.k a.d a.u first.before.before.edge_of-q.result) c.if-not-new_row_right.false new.ensures
 
-slice-write-marks : tie.Need-slice-write-marks
-slice-write-marks c =
+slice_write-marks : tie.Need-bounds-marks-q-2
+slice_write-marks c =
     let first = back-of-new c in
-    mark_of (from_back first).pre.1.0 first.before.before.Edge-of.result (named first)
+    mark_of (from_back first).requires.1.0 first.before.before.edge_of-q.result (named first)
 
-count-row-requires : tie.Need-count-row-requires
-count-row-requires c κs =
+count_row-requires : tie.Need-count_row-requires
+count_row-requires c κs =
     let first = back-of-new c.before in
-    let p = (from_back first).pre in
+    let p = (from_back first).requires in
     new-countable p.1.0 p.1.1 (named first) (right c.before)
 
 -- behind the counting of the row: the third test
-abbrev third_of : tie.After-reach-at2 → tie.Else3
+abbrev third_of : tie.After-reach_at-2 → tie.Else-not-new_row_right
 third_of c = c.before.before.before.before.before
 
-left-new-requires : tie.Need-left-new-requires
-left-new-requires c κs =
+left_new-requires : tie.Need-left_new-new-requires
+left_new-requires c κs =
     let third = third_of c in
     let first = back-of-new third in
-    let p = (from_back first).pre.1 in
-    (row_fits p.0.ready.sized first.before.before.Edge-of.result (named first).high, new-link p.0 p.1 (named first) (right third), omega (arith, k-small p.0))
+    let p = (from_back first).requires.1 in
+    (row_fits p.0.ready.sized first.before.before.edge_of-q.result (named first).high, new-link p.0 p.1 (named first) (right third), omega (arith, k-small p.0))
 
-returns-4 : tie.Need-returns-4
+returns-4 : tie.Need-returns
 returns-4 c =
     let left = c.before.before in
     let counted = left.before.before.before.before in
@@ -126,29 +126,29 @@ returns-4 c =
     let second = third.before.before in
     let first = back second in
     let s = from_back first in
-    let q = first.before.before.Edge-of in
-    tour-new s.pre.1.0 s.pre.1.1 (named first) q.ensures.0 second.if2.left (right third)
-    (subst (λ (x : Reach). LeftNew s.args.b.now s.args.k q.result x left.left-new.result) left.before.reach-at2.ensures left.left-new.ensures)
-    c.arrive2.ensures counted.count-row.auto.1.0 counted.count-row.ensures
+    let q = first.before.before.edge_of-q in
+    tour-new s.requires.1.0 s.requires.1.1 (named first) q.ensures.0 second.if-marks-q-eq1.false (right third)
+    (subst (λ (x : Reach). LeftNew s.args.b.now s.args.k q.result x left.left_new-new.result) left.before.reach_at-2.ensures left.left_new-new.ensures)
+    c.arrive-2.ensures counted.count_row.auto.carried counted.count_row.ensures
 
 pub enter_spec : {M : Type 1} → statement M
 enter_spec =
     tie.close
     (tie.spec
-    edge-of-requires
+    edge_of-requires
     (λ c κs. c.before.before.before.before.requires.1.0.ready.sized)
     returns
-    slice-read-if2
+    slice_read-if2
     (λ c κs. search rules)
     (λ c κs. search rules)
     (λ c κs. search rules)
     returns-2
-    new-row-right-requires
+    new_row_right-requires
     returns-3
-    slice-write-marks
-    count-row-requires
+    slice_write-marks
+    count_row-requires
     (λ c κs. search rules)
-    left-new-requires
+    left_new-requires
     (λ c. omega (arith, met-small (from_back (back-of-new (third_of c.before.before))).requires.1.0))
     (λ c κs. search rules)
     (λ c. search rules)

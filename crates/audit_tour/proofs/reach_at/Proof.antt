@@ -7,11 +7,11 @@ use Rattle.audit_tour.specs.Tour.{reach_at}
 use Rattle.audit_tour.proofs.reach_at.Statement.{statement}
 use Rattle.audit_tour.proofs.reach_at.Tie as tie
 
-returns : tie.Need-returns
-returns c = ap (λ (side : Side). reach_at (end_of side) c.before.before.args.tour) (sym c.enum_told.given.1)
+returns : tie.Need-returns-in-Left
+returns c = ap (λ (side : Side). reach_at (end_of side) c.before.args.tour) (sym c.in-Left.is)
 
-returns-2 : tie.Need-returns-2
-returns-2 c = ap (λ (side : Side). reach_at (end_of side) c.before.before.args.tour) (sym c.enum-told2.given.1)
+returns-2 : tie.Need-returns-in-Right
+returns-2 c = ap (λ (side : Side). reach_at (end_of side) c.before.args.tour) (sym c.in-Right.is)
 
-pub reach-at-spec : {M : Type 1} → statement M
-reach-at-spec = tie.close (tie.spec (λ c. search rules) (λ c. search rules) returns returns-2)
+pub reach_at_spec : {M : Type 1} → statement M
+reach_at_spec = tie.close (tie.spec (λ c. search rules) (λ c. search rules) returns returns-2)

@@ -67,10 +67,10 @@ loop-again c =
       counting =
           counting-next s.requires.0 (more i) t.loop-k.invariant.counting (here i) (row_is t) s.requires.1.0.long c.if-count-ne0.ends
           (
-            elim c.if-count-ne0.branch [
-              then-count-ne0 w ↦ inl (w.if-count-ne0.true, w.ends-is)
+          elim c.if-count-ne0.branch [
+            | then-count-ne0 w ↦ inl (w.if-count-ne0.true, w.ends-is)
             | else-count-ne0 w ↦ inr (w.if-count-ne0.false, w.ends-is)
-            ]
+          ]
           );
     }
 

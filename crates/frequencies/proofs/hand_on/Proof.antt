@@ -60,8 +60,8 @@ as_long counts r q new o = ⊎_elim (λ w. ap length w.1 ∙ length-set counts q
 raises : (c : tie.Joined-link-gt-EMPTY) → let s = entry c.before in Raised s.args.counts.now s.args.row c.before.link_of-link.result c.if-link-gt-EMPTY.counts
 raises c =
     elim c.if-link-gt-EMPTY.branch [
-      then-link-gt-EMPTY w ↦ inl (w.if-link-gt-EMPTY.true, w.counts-is)
-    | else-link-gt-EMPTY w ↦ inr (w.if-link-gt-EMPTY.false, w.counts-is)
+      | then-link-gt-EMPTY w ↦ inl (w.if-link-gt-EMPTY.true, w.counts-is)
+      | else-link-gt-EMPTY w ↦ inr (w.if-link-gt-EMPTY.false, w.counts-is)
     ]
 
 returns-2 : tie.Need-returns

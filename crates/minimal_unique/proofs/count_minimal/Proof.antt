@@ -62,11 +62,11 @@ loop-again c =
       passed = omega (arith, i.loop-k-test.true);
       counted =
           (
-            elim c.if-is_minimal.branch [
-              then-is_minimal w ↦ omega (arith, w.total-is, t.loop-k.invariant.counted, one_more s.requires.0 s.requires.1.0 (more i) m w.if-is_minimal.true)
+          elim c.if-is_minimal.branch [
+            | then-is_minimal w ↦ omega (arith, w.total-is, t.loop-k.invariant.counted, one_more s.requires.0 s.requires.1.0 (more i) m w.if-is_minimal.true)
             | else-is_minimal w ↦
                 omega (arith, w.total-is, t.loop-k.invariant.counted, ap length (listed-old s.requires.0 s.requires.1.0 (more i) m w.if-is_minimal.false))
-            ]
+          ]
           );
     }
 

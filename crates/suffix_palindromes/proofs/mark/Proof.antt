@@ -33,8 +33,8 @@ returns-2 c =
     let tested = c.before.before in
     let p = tested.before.before.before.requires in
     elim c.before.if-row-wanted.branch [
-      then-row-wanted w ↦ marks-wanted p.0 p.1.0.0 p.1.0.1 (omega (arith, tested.if-row-le-EMPTY.false)) w.if-row-wanted.true w.marked-is c.wide.ensures.0
-    | else-row-wanted w ↦ marks-other p.0 p.1.0.0 p.1.0.1 (omega (arith, tested.if-row-le-EMPTY.false)) w.if-row-wanted.false w.link_of.ensures.0 w.marked-is c.wide.ensures.0
+      | then-row-wanted w ↦ marks-wanted p.0 p.1.0.0 p.1.0.1 (omega (arith, tested.if-row-le-EMPTY.false)) w.if-row-wanted.true w.marked-is c.wide.ensures.0
+      | else-row-wanted w ↦ marks-other p.0 p.1.0.0 p.1.0.1 (omega (arith, tested.if-row-le-EMPTY.false)) w.if-row-wanted.false w.link_of.ensures.0 w.marked-is c.wide.ensures.0
     ]
 
 pub mark_spec : {M : Type 1} → statement M

@@ -71,10 +71,10 @@ loop-again c =
       ends = q.before.next-row.ensures;
       best = best-next (rule_of b) (letters_in b) i.k i.length i.place q.spelling_length-here.result (omega (arith, test, size t)) i.invariant.best (here q) c.if-length-here.length c.if-length-here.place
           (
-            elim c.if-length-here.branch [
-              then-length-here w ↦ inl (w.if-length-here.true, w.length-is, w.place-is)
+          elim c.if-length-here.branch [
+            | then-length-here w ↦ inl (w.if-length-here.true, w.length-is, w.place-is)
             | else-length-here w ↦ inr (w.if-length-here.false, w.length-is, w.place-is)
-            ]
+          ]
           );
     }
 
