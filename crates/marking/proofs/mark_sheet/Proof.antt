@@ -9,52 +9,52 @@ use Rattle.marking.proofs.mark_sheet.Tie as tie
 count-requires : tie.Need-count-requires
 count-requires c κs = header-fits c.before.before.before.before.requires.sized
 
-returns : tie.Need-returns
-returns c = none-counted c.before.before.before.before.before.requires _ _ (omega (arith, c.before.if1.true)) c.count.ensures.0
+returns : tie.Need-returns-then-sheet-eq0
+returns c = none-counted c.before.before.before.before.before.requires _ _ (omega (arith, c.before.if-sheet-eq0.true)) c.count.ensures.0
 
-slice-aggregate-rows-at-ends : tie.Need-slice-aggregate-rows-at-ends
-slice-aggregate-rows-at-ends c = search rules
+slice_aggregate-rows_at_ends : tie.Need-slice_bounds-rows_at_ends-end
+slice_aggregate-rows_at_ends c = search rules
 
-rows-at-ends-requires : tie.Need-rows-at-ends-requires
-rows-at-ends-requires c κs = search rules
+rows_at_ends-requires : tie.Need-rows_at_ends-requires
+rows_at_ends-requires c κs = search rules
 
-slice-aggregate-fill-jumps : tie.Need-slice-aggregate-fill-jumps
-slice-aggregate-fill-jumps c = search rules
+slice_aggregate-fill_jumps : tie.Need-slice_bounds-fill_jumps-end
+slice_aggregate-fill_jumps c = search rules
 
-slice-aggregate-fill-jumps-2 : tie.Need-slice-aggregate-fill-jumps-2
-slice-aggregate-fill-jumps-2 c = search rules
+slice_aggregate-fill_jumps-2 : tie.Need-slice_bounds-fill_jumps-end-2
+slice_aggregate-fill_jumps-2 c = search rules
 
-fill-jumps-requires : tie.Need-fill-jumps-requires
-fill-jumps-requires c κs = search rules
+fill_jumps-requires : tie.Need-fill_jumps-requires
+fill_jumps-requires c κs = search rules
 
-slice-aggregate-mark-lines : tie.Need-slice-aggregate-mark-lines
-slice-aggregate-mark-lines c = search rules
+slice_aggregate-mark_lines : tie.Need-slice_bounds-mark_lines-end
+slice_aggregate-mark_lines c = search rules
 
-slice-aggregate-mark-lines-2 : tie.Need-slice-aggregate-mark-lines-2
-slice-aggregate-mark-lines-2 c = search rules
+slice_aggregate-mark_lines-2 : tie.Need-slice_bounds-mark_lines-end-2
+slice_aggregate-mark_lines-2 c = search rules
 
-slice-aggregate-mark-lines-3 : tie.Need-slice-aggregate-mark-lines-3
-slice-aggregate-mark-lines-3 c = search rules
+slice_aggregate-mark_lines-3 : tie.Need-slice_bounds-mark_lines-end-3
+slice_aggregate-mark_lines-3 c = search rules
 
-mark-lines-requires : tie.Need-mark-lines-requires
-mark-lines-requires c κs = search rules
+mark_lines-requires : tie.Need-mark_lines-requires
+mark_lines-requires c κs = search rules
 
-returns-2 : tie.Need-returns-2
+returns-2 : tie.Need-returns
 returns-2 c = search rules
 
-pub mark-sheet-spec : {M : Type 1} → statement M
-mark-sheet-spec =
+pub mark_sheet_spec : {M : Type 1} → statement M
+mark_sheet_spec =
     tie.close
     (tie.spec
     count-requires
     returns
-    slice-aggregate-rows-at-ends
-    rows-at-ends-requires
-    slice-aggregate-fill-jumps
-    slice-aggregate-fill-jumps-2
-    fill-jumps-requires
-    slice-aggregate-mark-lines
-    slice-aggregate-mark-lines-2
-    slice-aggregate-mark-lines-3
-    mark-lines-requires
+    slice_aggregate-rows_at_ends
+    rows_at_ends-requires
+    slice_aggregate-fill_jumps
+    slice_aggregate-fill_jumps-2
+    fill_jumps-requires
+    slice_aggregate-mark_lines
+    slice_aggregate-mark_lines-2
+    slice_aggregate-mark_lines-3
+    mark_lines-requires
     returns-2)
