@@ -6,7 +6,7 @@ use Rattle.removal_call.proofs.remove_left.Statement.{statement}
 use Rattle.removal_call.proofs.remove_left.Tie as tie
 
 returns : tie.Need-returns
-returns c = at-end c.before.before.remove-letter.ensures refl
+returns c = at-end c.before.before.remove_letter.ensures refl
 
-pub remove-left-spec : {M : Type 1} → statement M
-remove-left-spec = tie.close (tie.spec (λ c κs. search rules) (λ c. search rules) returns)
+pub remove_left_spec : {M : Type 1} → statement M
+remove_left_spec = tie.close (tie.spec (λ c κs. search rules) (λ c. search rules) returns)

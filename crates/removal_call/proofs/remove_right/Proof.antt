@@ -6,7 +6,7 @@ use Rattle.removal_call.proofs.remove_right.Statement.{statement}
 use Rattle.removal_call.proofs.remove_right.Tie as tie
 
 returns : tie.Need-returns
-returns c = at-end c.before.before.remove-letter.ensures refl
+returns c = at-end c.before.before.remove_letter.ensures refl
 
-pub remove-right-spec : {M : Type 1} → statement M
-remove-right-spec = tie.close (tie.spec (λ c κs. search rules) (λ c. search rules) returns)
+pub remove_right_spec : {M : Type 1} → statement M
+remove_right_spec = tie.close (tie.spec (λ c κs. search rules) (λ c. search rules) returns)
