@@ -12,24 +12,24 @@ use Rattle.record_calls.proofs.Asking.{length-few, length-answered}
 use Rattle.record_calls.proofs.length.Statement.{statement}
 use Rattle.record_calls.proofs.length.Tie as tie
 
-returns : tie.Need-returns
+returns : tie.Need-returns-then-not-is_good
 returns c =
-    let g = c.before.before.is-good in
-    by-verdict _ _ _ 3 (damaged (fails _ g.result g.ensures c.before.if1.true) refl) (omega arith) c.refuse.ensures
+    let g = c.before.before.is_good in
+    by-verdict _ _ _ 3 (damaged (fails _ g.result g.ensures c.before.if-not-is_good.true) refl) (omega arith) c.refuse.ensures
 
 length-requires : tie.Need-length-requires
-length-requires c κs = let g = c.before.is-good in holds _ g.result g.ensures c.if1.false
+length-requires c κs = let g = c.before.is_good in holds _ g.result g.ensures c.if-not-is_good.false
 
 pack-requires : tie.Need-pack-requires
 pack-requires c κs =
-    let g = c.before.before.is-good in
-    let h = holds _ g.result g.ensures c.before.if1.false in
+    let g = c.before.before.is_good in
+    let h = holds _ g.result g.ensures c.before.if-not-is_good.false in
     omega (arith, length-few _ h, c.length.ensures)
 
-returns-2 : tie.Need-returns-2
+returns-2 : tie.Need-returns
 returns-2 c =
-    let g = c.before.before.before.is-good in
-    let h = holds _ g.result g.ensures c.before.before.if1.false in
+    let g = c.before.before.before.is_good in
+    let h = holds _ g.result g.ensures c.before.before.if-not-is_good.false in
     length-answered _ h (c.pack.ensures ∙ ap (λ (n : ℕ). packed (accepted false 0 n 0)) c.before.length.ensures)
 
 pub length_spec : {M : Type 1} → statement M

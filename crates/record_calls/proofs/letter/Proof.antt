@@ -9,16 +9,16 @@ use Rattle.record_calls.proofs.Asking.{place_inside, letter-answered}
 use Rattle.record_calls.proofs.letter.Statement.{statement}
 use Rattle.record_calls.proofs.letter.Tie as tie
 
-returns : tie.Need-returns
-returns c = by-verdict _ _ _ _ c.before.before.judge-letter.ensures c.before.if1.true c.refuse.ensures
+returns : tie.Need-returns-then-number-ne0
+returns c = by-verdict _ _ _ _ c.before.before.judge_letter-number.ensures c.before.if-number-ne0.true c.refuse.ensures
 
 letter-requires : tie.Need-letter-requires
-letter-requires c κs = let a = answerable _ _ _ _ c.before.judge-letter.ensures c.if1.false in (a.good, place_inside _ _ a)
+letter-requires c κs = let a = answerable _ _ _ _ c.before.judge_letter-number.ensures c.if-number-ne0.false in (a.good, place_inside _ _ a)
 
-returns-2 : tie.Need-returns-2
+returns-2 : tie.Need-returns
 returns-2 c =
-    let a = answerable _ _ _ _ c.before.before.before.before.judge-letter.ensures c.before.before.before.if1.false in
+    let a = answerable _ _ _ _ c.before.before.before.before.judge_letter-number.ensures c.before.before.before.if-number-ne0.false in
     letter-answered _ _ a (c.pack.ensures ∙ ap (λ (n : ℕ). packed (accepted false 0 n 0)) (c.before.wide.ensures.0 ∙ c.before.before.letter.ensures))
 
-pub letter-spec : {M : Type 1} → statement M
-letter-spec = tie.close (tie.spec (λ c κs. search rules) (λ c κs. search rules) returns letter-requires (λ c κs. search rules) (λ c κs. search rules) returns-2)
+pub letter_spec : {M : Type 1} → statement M
+letter_spec = tie.close (tie.spec (λ c κs. search rules) (λ c κs. search rules) returns letter-requires (λ c κs. search rules) (λ c κs. search rules) returns-2)
