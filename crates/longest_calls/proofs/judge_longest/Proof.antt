@@ -7,21 +7,21 @@ use Rattle.longest_calls.proofs.Asking.{no_record, some-record}
 use Rattle.longest_calls.proofs.judge_longest.Statement.{statement}
 use Rattle.longest_calls.proofs.judge_longest.Tie as tie
 
-returns : tie.Need-returns
-returns c = damaged (fails _ c.before.is-good.result c.before.is-good.ensures c.if1.true) refl
+returns : tie.Need-returns-then-not-is_good
+returns c = damaged (fails _ c.before.is_good.result c.before.is_good.ensures c.if-not-is_good.true) refl
 
 length-requires : tie.Need-length-requires
-length-requires c κs = let g = c.before.is-good in holds _ g.result g.ensures c.if1.false
+length-requires c κs = let g = c.before.is_good in holds _ g.result g.ensures c.if-not-is_good.false
 
-returns-2 : tie.Need-returns-2
+returns-2 : tie.Need-returns-then-length-eq0
 returns-2 c =
-    let g = c.before.before.before.is-good in
-    no_record _ (holds _ g.result g.ensures c.before.before.if1.false) (sym c.before.length.ensures ∙ c.if2.true)
+    let g = c.before.before.before.is_good in
+    no_record _ (holds _ g.result g.ensures c.before.before.if-not-is_good.false) (sym c.before.length.ensures ∙ c.if-length-eq0.true)
 
-returns-3 : tie.Need-returns-3
+returns-3 : tie.Need-returns
 returns-3 c =
-    let g = c.before.before.before.is-good in
-    some-record _ (holds _ g.result g.ensures c.before.before.if1.false) (λ e. c.if2.false (c.before.length.ensures ∙ e))
+    let g = c.before.before.before.is_good in
+    some-record _ (holds _ g.result g.ensures c.before.before.if-not-is_good.false) (λ e. c.if-length-eq0.false (c.before.length.ensures ∙ e))
 
-pub judge-longest-spec : {M : Type 1} → statement M
-judge-longest-spec = tie.close (tie.spec (λ c κs. search rules) returns length-requires returns-2 returns-3)
+pub judge_longest_spec : {M : Type 1} → statement M
+judge_longest_spec = tie.close (tie.spec (λ c κs. search rules) returns length-requires returns-2 returns-3)

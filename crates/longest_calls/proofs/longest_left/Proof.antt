@@ -4,7 +4,7 @@ use Rattle.longest_calls.proofs.longest_left.Statement.{statement}
 use Rattle.longest_calls.proofs.longest_left.Tie as tie
 
 returns : tie.Need-returns
-returns c = c.longest-at.ensures
+returns c = c.longest_at.ensures
 
-pub longest-left-spec : {M : Type 1} → statement M
-longest-left-spec = tie.close (tie.spec (λ c κs. search rules) returns)
+pub longest_left_spec : {M : Type 1} → statement M
+longest_left_spec = tie.close (tie.spec (λ c κs. search rules) returns)

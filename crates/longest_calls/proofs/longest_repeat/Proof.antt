@@ -9,21 +9,21 @@ use Rattle.longest_calls.proofs.Asking.{longest-few, longest-answered}
 use Rattle.longest_calls.proofs.longest_repeat.Statement.{statement}
 use Rattle.longest_calls.proofs.longest_repeat.Tie as tie
 
-returns : tie.Need-returns
-returns c = by-verdict _ _ _ _ c.before.before.judge-longest.ensures c.before.if1.true c.refuse.ensures
+returns : tie.Need-returns-then-number-ne0
+returns c = by-verdict _ _ _ _ c.before.before.judge_longest-number.ensures c.before.if-number-ne0.true c.refuse.ensures
 
-longest-requires : tie.Need-longest-requires
-longest-requires c κs = (answerable _ _ _ _ c.before.judge-longest.ensures c.if1.false).good
+longest-requires : tie.Need-longest-found-requires
+longest-requires c κs = (answerable _ _ _ _ c.before.judge_longest-number.ensures c.if-number-ne0.false).good
 
 pack-requires : tie.Need-pack-requires
 pack-requires c κs =
-    let a = answerable _ _ _ _ c.before.before.judge-longest.ensures c.before.if1.false in
-    longest-few _ a c.longest.ensures.0 c.longest.ensures.1
+    let a = answerable _ _ _ _ c.before.before.judge_longest-number.ensures c.before.if-number-ne0.false in
+    longest-few _ a c.longest-found.ensures.0 c.longest-found.ensures.1
 
-returns-2 : tie.Need-returns-2
+returns-2 : tie.Need-returns
 returns-2 c =
-    let a = answerable _ _ _ _ c.before.before.before.judge-longest.ensures c.before.before.if1.false in
-    longest-answered _ a (c.pack.ensures ∙ ap₂ (λ (n m : ℕ). packed (accepted false 0 n m)) c.before.longest.ensures.0 c.before.longest.ensures.1)
+    let a = answerable _ _ _ _ c.before.before.before.judge_longest-number.ensures c.before.before.if-number-ne0.false in
+    longest-answered _ a (c.pack.ensures ∙ ap₂ (λ (n m : ℕ). packed (accepted false 0 n m)) c.before.longest-found.ensures.0 c.before.longest-found.ensures.1)
 
-pub longest-repeat-spec : {M : Type 1} → statement M
-longest-repeat-spec = tie.close (tie.spec (λ c κs. search rules) (λ c κs. search rules) returns longest-requires pack-requires returns-2)
+pub longest_repeat_spec : {M : Type 1} → statement M
+longest_repeat_spec = tie.close (tie.spec (λ c κs. search rules) (λ c κs. search rules) returns longest-requires pack-requires returns-2)

@@ -4,7 +4,7 @@ use Rattle.longest_calls.proofs.longest_right.Statement.{statement}
 use Rattle.longest_calls.proofs.longest_right.Tie as tie
 
 returns : tie.Need-returns
-returns c = c.longest-at.ensures
+returns c = c.longest_at.ensures
 
-pub longest-right-spec : {M : Type 1} → statement M
-longest-right-spec = tie.close (tie.spec (λ c κs. search rules) returns)
+pub longest_right_spec : {M : Type 1} → statement M
+longest_right_spec = tie.close (tie.spec (λ c κs. search rules) returns)
