@@ -4,14 +4,14 @@ use borrow.Author.Tests.{eq-eqb, ne_eqb}
 use Rattle.mark_call.proofs.is_full.Statement.{statement}
 use Rattle.mark_call.proofs.is_full.Tie as tie
 
-returns : tie.Need-returns
-returns c = simp (ne_eqb _ 0 c.if1.true)
+returns : tie.Need-returns-then-repeated-ne0
+returns c = simp (ne_eqb _ 0 c.if-repeated-ne0.true)
 
-returns-2 : tie.Need-returns-2
-returns-2 c = simp (ne_eqb _ 0 c.if2.true, and-false)
+returns-2 : tie.Need-returns-then-wrong-ne0
+returns-2 c = simp (ne_eqb _ 0 c.if-wrong-ne0.true, and-false)
 
-returns-3 : tie.Need-returns-3
-returns-3 c = simp (eq-eqb _ 0 c.before.if1.false, eq-eqb _ 0 c.if2.false)
+returns-3 : tie.Need-returns
+returns-3 c = simp (eq-eqb _ 0 c.before.if-repeated-ne0.false, eq-eqb _ 0 c.if-wrong-ne0.false)
 
-pub is-full-spec : {M : Type 1} → statement M
-is-full-spec = tie.close (tie.spec returns returns-2 returns-3)
+pub is_full_spec : {M : Type 1} → statement M
+is_full_spec = tie.close (tie.spec returns returns-2 returns-3)
