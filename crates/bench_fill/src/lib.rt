@@ -11,8 +11,7 @@ use store::letters::Side;
 
 // Fills a record, and answers how many letters it was given; 0 where it has no room or a byte is no
 // letter, and the store then stays.
-#[unsafe(no_mangle)]
-pub extern "C" fn bench_fill(store: &mut [u8], letters: &[u8]) -> u64
+pub fn bench_fill(store: &mut [u8], letters: &[u8]) -> u64
     ensures { Fills store.old letters.now result store.new }
 {
     if store.len() < 49408 {

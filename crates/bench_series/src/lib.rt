@@ -7,8 +7,7 @@ use factorization::factorize;
 use store::header;
 
 // The rows visited, 0 where the store is damaged or the record inverted.
-#[unsafe(no_mangle)]
-pub extern "C" fn bench_series(store: &[u8]) -> u64
+pub fn bench_series(store: &[u8]) -> u64
     ensures { Visited store.now result }
 {
     if !audit::is_good(store) {

@@ -6,7 +6,7 @@ use Rattle.addition_call.proofs.add_left.Statement.{statement}
 use Rattle.addition_call.proofs.add_left.Tie as tie
 
 returns : tie.Need-returns
-returns c = at-end c.before.before.add-letter.ensures refl
+returns c = at-end c.before.before.add_letter.ensures refl
 
-pub add-left-spec : {M : Type 1} → statement M
-add-left-spec = tie.close (tie.spec (λ c κs. search rules) (λ c. search rules) returns)
+pub add_left_spec : {M : Type 1} → statement M
+add_left_spec = tie.close (tie.spec (λ c κs. search rules) (λ c. search rules) returns)

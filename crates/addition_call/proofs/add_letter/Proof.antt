@@ -17,31 +17,31 @@ use Rattle.addition_call.proofs.Adding.{Addable, addable, reported-is, answer_of
 use Rattle.addition_call.proofs.add_letter.Statement.{statement}
 use Rattle.addition_call.proofs.add_letter.Tie as tie
 
-returns : tie.Need-returns
-returns c = (by-verdict _ _ _ _ c.before.before.judge-add.ensures c.before.if1.true c.refuse.ensures, free-taken _ _ _)
+returns : tie.Need-returns-then-number-ne0
+returns c = (by-verdict _ _ _ _ c.before.before.judge_add-number.ensures c.before.if-number-ne0.true c.refuse.ensures, free-taken _ _ _)
 
 -- the entry, from where the verdict is 0, and what that says
-abbrev entry : tie.Else1 → tie.Start
-entry c = c.before.before.before.before
+abbrev entry : tie.Else-number-ne0 → tie.Start
+entry c = c.before.before.before
 
-allowed : (c : tie.Else1) → Addable (end_of (entry c).args.side) (entry c).args.letter (entry c).args.store.now
-allowed c = addable _ _ _ _ c.before.judge-add.ensures c.if1.false
+allowed : (c : tie.Else-number-ne0) → Addable (end_of (entry c).args.side) (entry c).args.letter (entry c).args.store.now
+allowed c = addable _ _ _ _ c.before.judge_add-number.ensures c.if-number-ne0.false
 
 -- the place of that verdict, from behind the addition
-abbrev at-verdict : tie.After-fill → tie.Else1
-at-verdict c = c.before.before.before.before.before
+abbrev at-verdict : tie.After-fill-added → tie.Else-number-ne0
+at-verdict c = c.before.before.before.before
 
-reports-requires : tie.Need-reports-requires
-reports-requires c κs = header-fits (allowed c.before).good.sized
+reports-requires : tie.Need-reports-told-requires
+reports-requires c κs = header-fits (allowed c).good.sized
 
-fill-requires : tie.Need-fill-requires
+fill-requires : tie.Need-fill-added-requires
 unfolding all_letters
 fill-requires c κs =
-    let a = allowed c.before.before.before.before in
+    let a = allowed c.before.before.before in
     (a.good, (both-are _ true a.letter refl, omega (arith, a.room)))
 
 -- the place behind the addition, from where its answer is reported
-abbrev at_fill : tie.After-reported → tie.After-fill
+abbrev at_fill : tie.After-reported → tie.After-fill-added
 at_fill c = c.before.before.before
 
 -- what the one letter brings, and what is answered of it
@@ -50,20 +50,20 @@ unfolding after_additions
 answer c =
     let called = at_fill c in
     let s = (entry (at-verdict called)).args in
-    let told : called.before.before.before.reports.result ≡ reports_in (reading_in s.store.now) (end_of s.side) = called.before.before.before.reports.ensures in
-    c.reported.ensures ∙ ap₂ reported_of told (called.fill.ensures.1 [] _ refl) ∙ reported-is (end_of s.side) s.letter s.store.now
+    let told : called.before.before.before.reports-told.result ≡ reports_in (reading_in s.store.now) (end_of s.side) = called.before.before.before.reports-told.ensures in
+    c.reported.ensures ∙ ap₂ reported_of told (called.fill-added.ensures.1 [] _ refl) ∙ reported-is (end_of s.side) s.letter s.store.now
 
-answer-added-requires : tie.Need-answer-added-requires
-answer-added-requires c κs = added-fits _ _ _ _ (allowed (at-verdict (at_fill c))) (answer c)
+answer_added-requires : tie.Need-answer_added-requires
+answer_added-requires c κs = added-fits _ _ _ _ (allowed (at-verdict (at_fill c))) (answer c)
 
-returns-2 : tie.Need-returns-2
+returns-2 : tie.Need-returns
 unfolding after_additions
 returns-2 c =
     let called = at_fill c.before in
-    (added _ _ _ _ (allowed (at-verdict called)) (answer c.before) c.answer-added.ensures called.fill.ensures.0, free-taken _ _ _)
+    (added _ _ _ _ (allowed (at-verdict called)) (answer c.before) c.answer_added.ensures called.fill-added.ensures.0, free-taken _ _ _)
 
-pub add-letter-spec : {M : Type 1} → statement M
-add-letter-spec =
+pub add_letter_spec : {M : Type 1} → statement M
+add_letter_spec =
     tie.close
     (tie.spec
     (λ c κs. search rules)
@@ -71,10 +71,10 @@ add-letter-spec =
     (λ c. search rules)
     returns
     reports-requires
-    (λ c. omega (arith, letter-byte _ (allowed c.before.before).letter))
+    (λ c. omega (arith, letter-byte _ (allowed c.before).letter))
     (λ c. search rules)
     fill-requires
     (λ c κs. search rules)
-    answer-added-requires
+    answer_added-requires
     (λ c. search rules)
     returns-2)

@@ -6,7 +6,7 @@ use Rattle.addition_call.proofs.add_right.Statement.{statement}
 use Rattle.addition_call.proofs.add_right.Tie as tie
 
 returns : tie.Need-returns
-returns c = at-end c.before.before.add-letter.ensures refl
+returns c = at-end c.before.before.add_letter.ensures refl
 
-pub add-right-spec : {M : Type 1} → statement M
-add-right-spec = tie.close (tie.spec (λ c κs. search rules) (λ c. search rules) returns)
+pub add_right_spec : {M : Type 1} → statement M
+add_right_spec = tie.close (tie.spec (λ c κs. search rules) (λ c. search rules) returns)

@@ -10,37 +10,37 @@ use Rattle.addition_call.proofs.Adding.{not-letter, is-full, can-add}
 use Rattle.addition_call.proofs.judge_add.Statement.{statement}
 use Rattle.addition_call.proofs.judge_add.Tie as tie
 
-returns : tie.Need-returns
-returns c = damaged (fails _ c.before.is-good.result c.before.is-good.ensures c.if1.true) refl
+returns : tie.Need-returns-then-not-is_good
+returns c = damaged (fails _ c.before.is_good.result c.before.is_good.ensures c.if-not-is_good.true) refl
 
-returns-2 : tie.Need-returns-2
+returns-2 : tie.Need-returns-then-not-is_letter
 returns-2 c =
-    let g = c.before.before.before.is-good in
-    not-letter _ _ _ (holds _ g.result g.ensures c.before.before.if1.false) (sym c.before.is-letter.ensures ∙ not-true _ c.if2.true)
+    let g = c.before.before.before.is_good in
+    not-letter _ _ _ (holds _ g.result g.ensures c.before.before.if-not-is_good.false) (sym c.before.is_letter.ensures ∙ c.if-not-is_letter.true)
 
 capacity-requires : tie.Need-capacity-requires
 capacity-requires c κs =
-    let g = c.before.before.before.is-good in
-    header-fits (holds _ g.result g.ensures c.before.before.if1.false).sized
+    let g = c.before.before.before.is_good in
+    header-fits (holds _ g.result g.ensures c.before.before.if-not-is_good.false).sized
 
 size-requires : tie.Need-size-requires
 size-requires c κs =
-    let g = c.before.before.before.before.is-good in
-    header-fits (holds _ g.result g.ensures c.before.before.before.if1.false).sized
+    let g = c.before.before.before.before.is_good in
+    header-fits (holds _ g.result g.ensures c.before.before.before.if-not-is_good.false).sized
 
-returns-3 : tie.Need-returns-3
+returns-3 : tie.Need-returns-then-capacity-size
 returns-3 c =
-    let g = c.before.before.before.before.before.before.is-good in
-    is-full _ _ _ (holds _ g.result g.ensures c.before.before.before.before.before.if1.false)
-    (sym c.before.before.before.before.is-letter.ensures ∙ not-false _ c.before.before.before.if2.false)
+    let g = c.before.before.before.before.before.before.is_good in
+    is-full _ _ _ (holds _ g.result g.ensures c.before.before.before.before.before.if-not-is_good.false)
+    (sym c.before.before.before.before.is_letter.ensures ∙ c.before.before.before.if-not-is_letter.false)
     (omega (arith, c.before.size.ensures.0, c.before.before.capacity.ensures.0))
 
-returns-4 : tie.Need-returns-4
+returns-4 : tie.Need-returns
 returns-4 c =
-    let g = c.before.before.before.before.before.before.is-good in
-    can-add _ _ _ (holds _ g.result g.ensures c.before.before.before.before.before.if1.false)
-    (sym c.before.before.before.before.is-letter.ensures ∙ not-false _ c.before.before.before.if2.false)
+    let g = c.before.before.before.before.before.before.is_good in
+    can-add _ _ _ (holds _ g.result g.ensures c.before.before.before.before.before.if-not-is_good.false)
+    (sym c.before.before.before.before.is_letter.ensures ∙ c.before.before.before.if-not-is_letter.false)
     (omega (arith, c.before.size.ensures.0, c.before.before.capacity.ensures.0))
 
-pub judge-add-spec : {M : Type 1} → statement M
-judge-add-spec = tie.close (tie.spec (λ c κs. search rules) returns (λ c κs. search rules) returns-2 capacity-requires size-requires returns-3 returns-4)
+pub judge_add_spec : {M : Type 1} → statement M
+judge_add_spec = tie.close (tie.spec (λ c κs. search rules) returns (λ c κs. search rules) returns-2 capacity-requires size-requires returns-3 returns-4)

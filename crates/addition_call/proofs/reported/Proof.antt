@@ -4,14 +4,14 @@ use borrow.Author.Rules.{rules}
 use Rattle.addition_call.proofs.reported.Statement.{statement}
 use Rattle.addition_call.proofs.reported.Tie as tie
 
-returns : tie.Need-returns
-returns c = rw c.if1.true refl
+returns : tie.Need-returns-then-told
+returns c = rw c.if-told.true refl
 
-returns-2 : tie.Need-returns-2
-returns-2 c = rw (c.before.before.before.if1.false, c.before.added.given.1) refl
+returns-2 : tie.Need-returns-in-New
+returns-2 c = rw (c.before.if-told.false, c.in-New.is) refl
 
-returns-3 : tie.Need-returns-3
-returns-3 c = rw (c.before.before.if1.false, c.enum_told.given.1) refl
+returns-3 : tie.Need-returns-in-Known
+returns-3 c = rw (c.before.if-told.false, c.in-Known.is) refl
 
-pub reported-spec : {M : Type 1} → statement M
-reported-spec = tie.close (tie.spec returns (λ c. search rules) (λ c. search rules) returns-2 returns-3)
+pub reported_spec : {M : Type 1} → statement M
+reported_spec = tie.close (tie.spec returns (λ c. search rules) (λ c. search rules) returns-2 returns-3)

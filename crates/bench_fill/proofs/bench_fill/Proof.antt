@@ -12,33 +12,33 @@ use Rattle.bench_fill.proofs.Filling.{store-short, too_many, no-letter, all-adde
 use Rattle.bench_fill.proofs.bench_fill.Statement.{statement}
 use Rattle.bench_fill.proofs.bench_fill.Tie as tie
 
-returns : tie.Need-returns
-returns c = store-short _ _ c.if1.true
+returns : tie.Need-returns-then-store-lt49408
+returns c = store-short _ _ c.if-store-lt49408.true
 
-returns-2 : tie.Need-returns-2
-returns-2 c = too_many _ _ c.if2.true
+returns-2 : tie.Need-returns-then-letters-gt1024
+returns-2 c = too_many _ _ c.if-letters-gt1024.true
 
-returns-3 : tie.Need-returns-3
-returns-3 c = no-letter _ _ (sym c.before.all-letters.ensures ∙ not-true _ c.if3.true)
+returns-3 : tie.Need-returns-then-not-all_letters
+returns-3 c = no-letter _ _ (sym c.before.all_letters.ensures ∙ c.if-not-all_letters.true)
 
 open-requires : tie.Need-open-requires
 unfolding store_size
-open-requires c κs = (omega arith, omega arith, omega (arith, c.before.before.before.before.if1.false))
+open-requires c κs = (omega arith, omega arith, omega (arith, c.before.before.before.before.if-store-lt49408.false))
 
 fill-requires : tie.Need-fill-requires
 fill-requires c κs =
     let t = c.before.before.before.before.before in
     let s = t.before.before.before.before.before.before in
     let h =
-    takes s.args.store.now s.args.letters.now t.before.before.before.if1.false (sym t.before.all-letters.ensures ∙ not-false _ t.if3.false) t.before.before.if2.false
+    takes s.args.store.now s.args.letters.now t.before.before.before.if-store-lt49408.false (sym t.before.all_letters.ensures ∙ t.if-not-all_letters.false) t.before.before.if-letters-gt1024.false
     c.before.before.before.«open».ensures in
     (h.0, (h.1, h.2))
 
-returns-4 : tie.Need-returns-4
+returns-4 : tie.Need-returns
 unfolding reading_number
 returns-4 c =
     let t = c.before.before.before.before.before.before.before.before in
-    all-added _ _ t.before.before.before.if1.false t.before.before.if2.false (sym t.before.all-letters.ensures ∙ not-false _ t.if3.false) refl (c.before.before.fill.ensures.0 ∙ ap (after_additions at_right _) c.before.before.before.before.before.before.«open».ensures)
+    all-added _ _ t.before.before.before.if-store-lt49408.false t.before.before.if-letters-gt1024.false (sym t.before.all_letters.ensures ∙ t.if-not-all_letters.false) refl (c.before.before.fill.ensures.0 ∙ ap (after_additions at_right _) c.before.before.before.before.before.before.«open».ensures)
 
-pub bench-fill-spec : {M : Type 1} → statement M
-bench-fill-spec = tie.close (tie.spec returns returns-2 (λ c κs. search rules) returns-3 open-requires fill-requires (λ c. search rules) returns-4)
+pub bench_fill_spec : {M : Type 1} → statement M
+bench_fill_spec = tie.close (tie.spec returns returns-2 (λ c κs. search rules) returns-3 open-requires fill-requires (λ c. search rules) returns-4)

@@ -12,25 +12,25 @@ use Rattle.frequency_calls.proofs.Asking.{frequency-answered}
 use Rattle.frequency_calls.proofs.frequency.Statement.{statement}
 use Rattle.frequency_calls.proofs.frequency.Tie as tie
 
-returns : tie.Need-returns
-returns c = by-verdict _ _ _ _ c.before.before.judge-frequency.ensures c.before.if1.true c.refuse.ensures
+returns : tie.Need-returns-then-number-ne0
+returns c = by-verdict _ _ _ _ c.before.before.judge_frequency-number.ensures c.before.if-number-ne0.true c.refuse.ensures
 
-frequency-requires : tie.Need-frequency-requires
+frequency-requires : tie.Need-frequency-places-requires
 frequency-requires c κs =
-    let a = answerable _ _ _ _ c.before.judge-frequency.ensures c.if1.false in
+    let a = answerable _ _ _ _ c.before.judge_frequency-number.ensures c.if-number-ne0.false in
     let r = frequency-row _ _ _ a.clear in
     (a.good, (r.1, r.0))
 
 pack-requires : tie.Need-pack-requires
 pack-requires c κs =
-    let a = answerable _ _ _ _ c.before.before.judge-frequency.ensures c.before.if1.false in
+    let a = answerable _ _ _ _ c.before.before.judge_frequency-number.ensures c.before.if-number-ne0.false in
     let r = frequency-row _ _ _ a.clear in
-    (omega arith, omega (arith, c.frequency.ensures, frequency-small a.good _ r.0 r.1), omega arith)
+    (omega arith, omega (arith, c.frequency-places.ensures, frequency-small a.good _ r.0 r.1), omega arith)
 
-returns-2 : tie.Need-returns-2
+returns-2 : tie.Need-returns
 returns-2 c =
-    let a = answerable _ _ _ _ c.before.before.before.judge-frequency.ensures c.before.before.if1.false in
-    frequency-answered _ _ a (c.pack.ensures ∙ ap (λ (n : ℕ). packed (accepted false 0 n 0)) c.before.frequency.ensures)
+    let a = answerable _ _ _ _ c.before.before.before.judge_frequency-number.ensures c.before.before.if-number-ne0.false in
+    frequency-answered _ _ a (c.pack.ensures ∙ ap (λ (n : ℕ). packed (accepted false 0 n 0)) c.before.frequency-places.ensures)
 
-pub frequency-spec : {M : Type 1} → statement M
-frequency-spec = tie.close (tie.spec (λ c κs. search rules) (λ c κs. search rules) returns frequency-requires pack-requires returns-2)
+pub frequency_spec : {M : Type 1} → statement M
+frequency_spec = tie.close (tie.spec (λ c κs. search rules) (λ c κs. search rules) returns frequency-requires pack-requires returns-2)

@@ -9,26 +9,26 @@ use Rattle.frequency_calls.proofs.Asking.{root, used, unused}
 use Rattle.frequency_calls.proofs.judge_frequency.Statement.{statement}
 use Rattle.frequency_calls.proofs.judge_frequency.Tie as tie
 
-returns : tie.Need-returns
-returns c = damaged (fails _ c.before.is-good.result c.before.is-good.ensures c.if1.true) refl
+returns : tie.Need-returns-then-not-is_good
+returns c = damaged (fails _ c.before.is_good.result c.before.is_good.ensures c.if-not-is_good.true) refl
 
-returns-2 : tie.Need-returns-2
+returns-2 : tie.Need-returns-then-row-le-EMPTY
 returns-2 c =
-    let g = c.before.before.is-good in
-    root _ (holds _ g.result g.ensures c.before.if1.false) _ (omega (arith, c.if2.true))
+    let g = c.before.before.is_good in
+    root _ (holds _ g.result g.ensures c.before.if-not-is_good.false) _ (omega (arith, c.if-row-le-EMPTY.true))
 
-is-used-requires : tie.Need-is-used-requires
-is-used-requires c κs = let g = c.before.before.is-good in holds _ g.result g.ensures c.before.if1.false
+is_used-requires : tie.Need-is_used-requires
+is_used-requires c κs = let g = c.before.before.is_good in holds _ g.result g.ensures c.before.if-not-is_good.false
 
-returns-3 : tie.Need-returns-3
+returns-3 : tie.Need-returns-then-not-is_used
 returns-3 c =
-    let g = c.before.before.before.before.is-good in
-    unused _ (holds _ g.result g.ensures c.before.before.before.if1.false) _ (omega (arith, c.before.before.if2.false)) (sym c.before.is-used.ensures ∙ not-true _ c.if3.true)
+    let g = c.before.before.before.before.is_good in
+    unused _ (holds _ g.result g.ensures c.before.before.before.if-not-is_good.false) _ (omega (arith, c.before.before.if-row-le-EMPTY.false)) (sym c.before.is_used.ensures ∙ c.if-not-is_used.true)
 
-returns-4 : tie.Need-returns-4
+returns-4 : tie.Need-returns
 returns-4 c =
-    let g = c.before.before.before.before.is-good in
-    used _ (holds _ g.result g.ensures c.before.before.before.if1.false) _ (omega (arith, c.before.before.if2.false)) (sym c.before.is-used.ensures ∙ not-false _ c.if3.false)
+    let g = c.before.before.before.before.is_good in
+    used _ (holds _ g.result g.ensures c.before.before.before.if-not-is_good.false) _ (omega (arith, c.before.before.if-row-le-EMPTY.false)) (sym c.before.is_used.ensures ∙ c.if-not-is_used.false)
 
-pub judge-frequency-spec : {M : Type 1} → statement M
-judge-frequency-spec = tie.close (tie.spec (λ c κs. search rules) returns returns-2 is-used-requires returns-3 returns-4)
+pub judge_frequency_spec : {M : Type 1} → statement M
+judge_frequency_spec = tie.close (tie.spec (λ c κs. search rules) returns returns-2 is_used-requires returns-3 returns-4)

@@ -27,97 +27,97 @@ use Rattle.factorization.proofs.Filling.{own-partner}
 use Rattle.pieces_call.proofs.list_pieces.Statement.{statement}
 use Rattle.pieces_call.proofs.list_pieces.Tie as tie
 
-returns : tie.Need-returns
+returns : tie.Need-returns-then-not-is_good
 returns c =
-    let g = c.before.before.is-good in
-    by-verdict _ _ _ 3 (damaged (fails _ g.result g.ensures c.before.if1.true) refl) (omega arith) c.refuse.ensures
+    let g = c.before.before.is_good in
+    by-verdict _ _ _ 3 (damaged (fails _ g.result g.ensures c.before.if-not-is_good.true) refl) (omega arith) c.refuse.ensures
 
 -- a store that passes its test
-good : (c : tie.Else1) → Good c.before.before.before.before.args.store.now
-good c = let g = c.before.is-good in holds _ g.result g.ensures c.if1.false
+good : (c : tie.Else-not-is_good) → Good c.before.before.before.before.args.store.now
+good c = let g = c.before.is_good in holds _ g.result g.ensures c.if-not-is_good.false
 
 -- the test, from behind the reading; that, from behind the factorization; and the entry from there
-abbrev tested : tie.After-reading → tie.Else1
+abbrev tested : tie.After-reading → tie.Else-not-is_good
 tested c = c.before
 
-abbrev read : tie.After-factorize → tie.After-reading
+abbrev read : tie.After-factorize-number → tie.After-reading
 read c = c.before.before.before
 
-abbrev from-factors : tie.After-factorize → tie.Start
+abbrev from-factors : tie.After-factorize-number → tie.Start
 from-factors c = (tested (read c)).before.before.before.before
 
 reading-requires : tie.Need-reading-requires
 reading-requires c κs = header-fits (good c).sized
 
-returns-2 : tie.Need-returns-2
+returns-2 : tie.Need-returns-then-reading-ne0
 returns-2 c =
     let r = c.before.before in
     let g = good (tested r) in
     let one : reading_in (tested r).before.before.before.before.args.store.now ≡ 1 =
-    omega (arith, r.reading.ensures.0, c.before.if2.true, g.reading) in
-    by-verdict _ _ _ 14 (judged g (sym (pieces-inverted _ _ one))) (omega arith) c.refuse2.ensures
+    omega (arith, r.reading.ensures.0, c.before.if-reading-ne0.true, g.reading) in
+    by-verdict _ _ _ 14 (judged g (sym (pieces-inverted _ _ one))) (omega arith) c.refuse-then-reading-ne0.ensures
 
 -- a plain record
-plain : (c : tie.After-factorize) → reading_in (from-factors c).args.store.now ≡ 0
-plain c = omega (arith, (read c).reading.ensures.0, c.before.before.if2.false)
+plain : (c : tie.After-factorize-number) → reading_in (from-factors c).args.store.now ≡ 0
+plain c = omega (arith, (read c).reading.ensures.0, c.before.before.if-reading-ne0.false)
 
-factorize-requires : tie.Need-factorize-requires
+factorize-requires : tie.Need-factorize-number-requires
 factorize-requires c κs =
     let e = c.before in
     let r = e.before in
     let g = good (tested r) in
-    ((g, omega (arith, r.reading.ensures.0, e.if2.false)), size-most g)
+    ((g, omega (arith, r.reading.ensures.0, e.if-reading-ne0.false)), size-most g)
 
 -- where the pieces end, two bytes for each
-abbrev listed : tie.After-factorize → List ℕ
+abbrev listed : tie.After-factorize-number → List ℕ
 listed c = let b = (from-factors c).args.store.now in factor_ends (rule_of b) (letters_in b)
 
-room : (c : tie.After-factorize) → length (end_bytes (listed c)) ≡ 2 * c.factorize.result.number
+room : (c : tie.After-factorize-number) → length (end_bytes (listed c)) ≡ 2 * c.factorize-number.result.number
 room c =
     let b = (from-factors c).args.store.now in
-    omega (arith, end-bytes-length (listed c), ends-number (rule_of b) (own-partner b (plain c)) (letters_in b), c.factorize.ensures.0)
+    omega (arith, end-bytes-length (listed c), ends-number (rule_of b) (own-partner b (plain c)) (letters_in b), c.factorize-number.ensures.0)
 
-mul-if3 : tie.Need-overflow-mul-if3
+mul-if3 : tie.Need-overflow_mul-number
 mul-if3 c =
     let f = c.before in
     let b = (from-factors f).args.store.now in
-    omega (arith, f.factorize.ensures.0, length_most (rule_of b) (letters_in b), few (good (tested (read f))))
+    omega (arith, f.factorize-number.ensures.0, length_most (rule_of b) (letters_in b), few (good (tested (read f))))
 
-returns-3 : tie.Need-returns-3
+returns-3 : tie.Need-returns-then-out-number
 returns-3 c =
     let f = c.before.before.before in
     let s = (from-factors f).args in
-    let short = too_short (pieces-writing s.store.now (plain f)) (lending [] s.out.now) (omega (arith, room f, c.before.if3.true)) in
-    by-verdict _ _ _ 9 (judged (good (tested (read f))) (sym short)) (omega arith) c.refuse3.ensures
+    let short = too_short (pieces-writing s.store.now (plain f)) (lending [] s.out.now) (omega (arith, room f, c.before.if-out-number.true)) in
+    by-verdict _ _ _ 9 (judged (good (tested (read f))) (sym short)) (omega arith) c.refuse-then-out-number.ensures
 
 -- a buffer with room
-clear : (c : tie.Else3) → let s = (from-factors c.before.before).args in Answerable (ask the_pieces) s.store.now (lending [] s.out.now)
+clear : (c : tie.Else-out-number) → let s = (from-factors c.before.before).args in Answerable (ask the_pieces) s.store.now (lending [] s.out.now)
 clear c =
     let f = c.before.before in
-    record { good = good (tested (read f)); clear = long-enough (pieces-writing _ (plain f)) _ (omega (arith, room f, c.if3.false)) }
+    record { good = good (tested (read f)); clear = long-enough (pieces-writing _ (plain f)) _ (omega (arith, room f, c.if-out-number.false)) }
 
-put-ends-requires : tie.Need-put-ends-requires
-put-ends-requires c κs =
+put_ends-requires : tie.Need-put_ends-requires
+put_ends-requires c κs =
     let e = c.before.before in
     let f = e.before.before in
-    ((good (tested (read f)), plain f), (f.factorize.ensures.1.0, (f.factorize.ensures.0, omega (arith, e.if3.false))))
+    ((good (tested (read f)), plain f), (f.factorize-number.ensures.1.0, (f.factorize-number.ensures.0, omega (arith, e.if-out-number.false))))
 
 pack-requires : tie.Need-pack-requires
 unfolding answer_to
 pack-requires c κs =
     let e = c.before.before.before.before.before in
-    omega (arith, question-packs the_pieces _ _ (clear e), e.before.before.factorize.ensures.0)
+    omega (arith, question-packs the_pieces _ _ (clear e), e.before.before.factorize-number.ensures.0)
 
-returns-4 : tie.Need-returns-4
+returns-4 : tie.Need-returns
 unfolding answer_to lent_after written
 returns-4 c =
     let p = c.before.before.before in
     let e = p.before.before.before in
-    let reply = c.pack.ensures ∙ ap (λ (n : ℕ). packed (accepted false 0 n 0)) e.before.before.factorize.ensures.0 in
-    question-answered the_pieces _ _ (clear e) reply (ap (lending []) p.put-ends.ensures)
+    let reply = c.pack.ensures ∙ ap (λ (n : ℕ). packed (accepted false 0 n 0)) e.before.before.factorize-number.ensures.0 in
+    question-answered the_pieces _ _ (clear e) reply (ap (lending []) p.put_ends.ensures)
 
-pub list-pieces-spec : {M : Type 1} → statement M
-list-pieces-spec =
+pub list_pieces_spec : {M : Type 1} → statement M
+list_pieces_spec =
     tie.close
     (tie.spec
     (λ c κs. search rules)
@@ -132,7 +132,7 @@ list-pieces-spec =
     (λ c κs. search rules)
     returns-3
     (λ c. search rules)
-    put-ends-requires
+    put_ends-requires
     pack-requires
     (λ c. search rules)
     returns-4)

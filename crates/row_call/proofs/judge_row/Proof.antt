@@ -8,21 +8,21 @@ use Rattle.row_call.proofs.Asking.{used, unused}
 use Rattle.row_call.proofs.judge_row.Statement.{statement}
 use Rattle.row_call.proofs.judge_row.Tie as tie
 
-returns : tie.Need-returns
-returns c = damaged (fails _ c.before.is-good.result c.before.is-good.ensures c.if1.true) refl
+returns : tie.Need-returns-then-not-is_good
+returns c = damaged (fails _ c.before.is_good.result c.before.is_good.ensures c.if-not-is_good.true) refl
 
-is-used-requires : tie.Need-is-used-requires
-is-used-requires c κs = let g = c.before.is-good in holds _ g.result g.ensures c.if1.false
+is_used-requires : tie.Need-is_used-requires
+is_used-requires c κs = let g = c.before.is_good in holds _ g.result g.ensures c.if-not-is_good.false
 
-returns-2 : tie.Need-returns-2
+returns-2 : tie.Need-returns-then-not-is_used
 returns-2 c =
-    let g = c.before.before.before.is-good in
-    unused _ (holds _ g.result g.ensures c.before.before.if1.false) _ (sym c.before.is-used.ensures ∙ not-true _ c.if2.true)
+    let g = c.before.before.before.is_good in
+    unused _ (holds _ g.result g.ensures c.before.before.if-not-is_good.false) _ (sym c.before.is_used.ensures ∙ c.if-not-is_used.true)
 
-returns-3 : tie.Need-returns-3
+returns-3 : tie.Need-returns
 returns-3 c =
-    let g = c.before.before.before.is-good in
-    used _ (holds _ g.result g.ensures c.before.before.if1.false) _ (sym c.before.is-used.ensures ∙ not-false _ c.if2.false)
+    let g = c.before.before.before.is_good in
+    used _ (holds _ g.result g.ensures c.before.before.if-not-is_good.false) _ (sym c.before.is_used.ensures ∙ c.if-not-is_used.false)
 
-pub judge-row-spec : {M : Type 1} → statement M
-judge-row-spec = tie.close (tie.spec (λ c κs. search rules) returns is-used-requires returns-2 returns-3)
+pub judge_row_spec : {M : Type 1} → statement M
+judge_row_spec = tie.close (tie.spec (λ c κs. search rules) returns is_used-requires returns-2 returns-3)

@@ -14,30 +14,30 @@ use Rattle.outcome.proofs.Questions.{question-answered, question-packs, spell-al
 use Rattle.spell_call.proofs.spell_row.Statement.{statement}
 use Rattle.spell_call.proofs.spell_row.Tie as tie
 
-returns : tie.Need-returns
-returns c = by-verdict _ _ _ _ c.before.before.judge-spell.ensures c.before.if1.true c.refuse.ensures
+returns : tie.Need-returns-then-number-ne0
+returns c = by-verdict _ _ _ _ c.before.before.judge_spell-number.ensures c.before.if-number-ne0.true c.refuse.ensures
 
 spell-requires : tie.Need-spell-requires
 spell-requires c κs =
-    let a = answerable _ _ _ _ c.before.before.judge-spell.ensures c.before.if1.false in
+    let a = answerable _ _ _ _ c.before.before.judge_spell-number.ensures c.before.if-number-ne0.false in
     (a.good, spell-allowed _ _ _ a)
 
 pack-requires : tie.Need-pack-requires
 unfolding answer_to
 pack-requires c κs =
     let called = c.before.before in
-    let a = answerable _ _ _ _ called.before.before.before.judge-spell.ensures called.before.before.if1.false in
+    let a = answerable _ _ _ _ called.before.before.before.judge_spell-number.ensures called.before.before.if-number-ne0.false in
     omega (arith, question-packs (spell _) _ _ a, called.spell.ensures.1)
 
-returns-2 : tie.Need-returns-2
+returns-2 : tie.Need-returns
 unfolding answer_to lent_after written
 returns-2 c =
     let called = c.before.before.before in
-    let a = answerable _ _ _ _ called.before.before.before.judge-spell.ensures called.before.before.if1.false in
+    let a = answerable _ _ _ _ called.before.before.before.judge_spell-number.ensures called.before.before.if-number-ne0.false in
     let reply = c.pack.ensures ∙ ap (λ (n : ℕ). packed (accepted false 0 n 0)) called.spell.ensures.1 in
     question-answered (spell _) _ _ a reply (ap (lending []) called.spell.ensures.0)
 
-pub spell-row-spec : {M : Type 1} → statement M
-spell-row-spec =
+pub spell_row_spec : {M : Type 1} → statement M
+spell_row_spec =
     tie.close
     (tie.spec (λ c κs. search rules) (λ c κs. search rules) (λ c. search rules) returns spell-requires pack-requires (λ c. search rules) returns-2)

@@ -6,7 +6,7 @@ use Rattle.turn_call.proofs.turn_inverted.Statement.{statement}
 use Rattle.turn_call.proofs.turn_inverted.Tie as tie
 
 returns : tie.Need-returns
-returns c = in-reading c.before.before.turn-to.ensures refl
+returns c = in-reading c.before.before.turn_to.ensures refl
 
-pub turn-inverted-spec : {M : Type 1} → statement M
-turn-inverted-spec = tie.close (tie.spec (λ c κs. search rules) (λ c. search rules) returns)
+pub turn_inverted_spec : {M : Type 1} → statement M
+turn_inverted_spec = tie.close (tie.spec (λ c κs. search rules) (λ c. search rules) returns)

@@ -6,7 +6,7 @@ use Rattle.turn_call.proofs.turn_plain.Statement.{statement}
 use Rattle.turn_call.proofs.turn_plain.Tie as tie
 
 returns : tie.Need-returns
-returns c = in-reading c.before.before.turn-to.ensures refl
+returns c = in-reading c.before.before.turn_to.ensures refl
 
-pub turn-plain-spec : {M : Type 1} → statement M
-turn-plain-spec = tie.close (tie.spec (λ c κs. search rules) (λ c. search rules) returns)
+pub turn_plain_spec : {M : Type 1} → statement M
+turn_plain_spec = tie.close (tie.spec (λ c κs. search rules) (λ c. search rules) returns)
