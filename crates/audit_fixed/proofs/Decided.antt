@@ -1,6 +1,6 @@
 -- How the answer of a test is used: where the code goes on, the proposition holds, and where it stops, it does not. Assumes nothing.
 use mathlib.Core.Path.{◌≡◌, sym, ◌∙◌}
-use mathlib.Core.Bool.{Bool, true, false, not, true≢false}
+use mathlib.Core.Bool.{Bool, true, false, true≢false}
 use Rattle.audit_fixed.specs.Decides.{Decides}
 
 -- the code goes on

@@ -153,12 +153,7 @@ pub fn mirror_find(store: &[u8], piece: &[u8]) -> u64
 }
 
 // Writes the list of the repeats.
-pub fn mirror_list(
-    store: &[u8],
-    identifier: &[u8],
-    scratch: &mut [u8],
-    out: &mut [u8],
-) -> u64
+pub fn mirror_list(store: &[u8], identifier: &[u8], scratch: &mut [u8], out: &mut [u8]) -> u64
     ensures { Asked (list identifier.now) store.now (lending scratch.old out.old) result (lending scratch.new out.new) }
 {
     list_call::list_repeats(store, identifier, scratch, out)
@@ -186,12 +181,7 @@ pub fn mirror_pieces(store: &[u8], out: &mut [u8]) -> u64
 }
 
 // Marks a sheet of BED lines: whether it has full marks. Its four counts replace those of the mark sheet.
-pub fn mirror_mark(
-    store: &[u8],
-    identifier: &[u8],
-    sheet: &[u8],
-    marks: &mut [u8],
-) -> u64
+pub fn mirror_mark(store: &[u8], identifier: &[u8], sheet: &[u8], marks: &mut [u8]) -> u64
     ensures { AskedInto (mark identifier.now sheet.now) store.now marks.old result marks.new }
 {
     mark_call::mark_list(store, identifier, sheet, marks)

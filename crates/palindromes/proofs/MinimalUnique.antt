@@ -1,7 +1,7 @@
 -- Minimal unique palindromes, word by word: what the test says (`minimal_true`); of two of them none stands in the other (`none_inside`); and which
 -- nodes of the eertree spell one, by the frequencies of a node and of its inner node: 003 lemma 5 (`minimal-by-node`). Rests on the cuts of `Words`
 -- and `Places`. The partner rule may be any.
-use Prim.Native.Nat.{ℕ, ◌+◌, ◌<◌}
+use Prim.Native.Nat.{ℕ, ◌<◌}
 use native.Mathlib.Omega.{arith}
 use mathlib.Core.Path.{◌≡◌, refl, ap}
 use mathlib.Core.Bool.{Bool, true, false, ◌&&◌}

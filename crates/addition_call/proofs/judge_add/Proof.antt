@@ -1,7 +1,6 @@
 -- `addition_call::judge_add` is the verdict on an addition. Assumes nothing.
 use mathlib.Core.Path.{refl, sym, ◌∙◌}
 use borrow.Author.Rules.{rules}
-use borrow.Author.Tests.{not-true, not-false}
 use native.Mathlib.Omega.{arith}
 use Rattle.walk.proofs.Stores.{header-fits}
 use Rattle.outcome.specs.Verdict.{damaged}

@@ -1,7 +1,6 @@
 -- `bench_fill` keeps its promise. Assumes nothing.
 use native.Mathlib.Omega.{arith}
 use borrow.Author.Rules.{rules}
-use borrow.Author.Tests.{not-true, not-false}
 use mathlib.Core.Path.{refl, sym, ap, ◌∙◌}
 use Rattle.palindromes.specs.Reading.{reading_number}
 use Rattle.palindromes.specs.Refusal.{store_size}

@@ -1,7 +1,6 @@
 -- `find_call::judge_find` is the verdict on finding a piece. Assumes nothing.
 use mathlib.Core.Path.{refl, sym, ◌∙◌}
 use borrow.Author.Rules.{rules}
-use borrow.Author.Tests.{not-true, not-false}
 use Rattle.outcome.specs.Verdict.{damaged}
 use Rattle.audit_fixed.proofs.Decided.{holds, fails}
 use Rattle.find_call.proofs.Finding.{no-piece, no_text, can-find}

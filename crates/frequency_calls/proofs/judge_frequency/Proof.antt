@@ -2,7 +2,6 @@
 use mathlib.Core.Path.{refl, sym, ◌∙◌}
 use native.Mathlib.Omega.{arith}
 use borrow.Author.Rules.{rules}
-use borrow.Author.Tests.{not-true, not-false}
 use Rattle.outcome.specs.Verdict.{damaged}
 use Rattle.audit_fixed.proofs.Decided.{holds, fails}
 use Rattle.frequency_calls.proofs.Asking.{root, used, unused}

@@ -1,7 +1,6 @@
 -- `list_call::judge_list` is the verdict on listing. Assumes nothing.
 use mathlib.Core.Path.{refl, sym, ◌∙◌}
 use borrow.Author.Rules.{rules}
-use borrow.Author.Tests.{not-true, not-false}
 use Rattle.outcome.specs.Verdict.{damaged}
 use Rattle.audit_fixed.proofs.Decided.{holds, fails}
 use Rattle.list_call.proofs.Listing.{bad-name, scratch-short, out-short, can-list}

@@ -2,7 +2,6 @@
 use native.Mathlib.Omega.{arith}
 use mathlib.Core.Path.{◌≡◌, refl, sym, ◌∙◌}
 use mathlib.Core.Bool.{true}
-use borrow.Author.Tests.{not-true, not-false}
 use Rattle.palindromes.specs.Bed.{is_identifier}
 use Rattle.store.specs.Good.{Good}
 use Rattle.audit_fixed.proofs.Decided.{holds, fails}

@@ -1,7 +1,6 @@
 -- `row_call::judge_row` is the verdict on asking a row. Assumes nothing.
 use mathlib.Core.Path.{refl, sym, ◌∙◌}
 use borrow.Author.Rules.{rules}
-use borrow.Author.Tests.{not-true, not-false}
 use Rattle.outcome.specs.Verdict.{damaged}
 use Rattle.audit_fixed.proofs.Decided.{holds, fails}
 use Rattle.row_call.proofs.Asking.{used, unused}

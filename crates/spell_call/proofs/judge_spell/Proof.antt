@@ -2,7 +2,6 @@
 use mathlib.Core.Path.{refl, sym, ◌∙◌}
 use native.Mathlib.Omega.{arith}
 use borrow.Author.Rules.{rules}
-use borrow.Author.Tests.{not-true, not-false}
 use Rattle.outcome.specs.Verdict.{damaged, judged}
 use Rattle.audit_fixed.proofs.Decided.{holds, fails}
 use Rattle.outcome.proofs.Refusals.{spell-free, spell-short, spell-accepted}
