@@ -5,19 +5,19 @@
 # make install PREFIX=..    puts the header, the archive, its pkg-config file and the program in place
 #
 # Everything proved is built by rt, which must not run twice at a time in one checkout. Its account goes to standard error,
-# a line a crate, and whole where it fails: the output of `make list` and `make key` is the list or the key alone.
+# a line or two a crate, and whole where it fails: the output of `make list` and `make key` is the list or the key alone.
 .NOTPARALLEL:
 .DELETE_ON_ERROR:
 SHELL := /bin/bash
 .SHELLFLAGS := -o pipefail -c
-prove = @mkdir -p target; rt $(1) 2>&1 | tee target/prove.txt | grep --line-buffered '^rt: ' >&2 || { cat target/prove.txt >&2; exit 1; }
+prove = @mkdir -p target; $(1) 2>&1 | tee target/prove.txt | grep --line-buffered '^rt: ' >&2 || { cat target/prove.txt >&2; exit 1; }
 
 PREFIX ?= /usr/local
 DESTDIR ?=
 prefix := $(abspath $(PREFIX))
 to := $(DESTDIR)$(prefix)
 
-sources := crates.txt $(shell find crates -name '*.rt' -o -name '*.antt')
+sources := crates.txt $(shell find crates -name out -prune -o '(' -name '*.rt' -o -name '*.antt' ')' -print)
 archive := target/staticlib/libhost.a
 program := target/bin/mirrorlist
 
@@ -25,11 +25,11 @@ program := target/bin/mirrorlist
 all: $(archive) $(program)
 
 $(archive): $(sources)
-	$(call prove,staticlib host)
+	$(call prove,tests/archive host)
 	@touch $@
 
 target/bin/%: $(sources)
-	$(call prove,check $*)
+	$(call prove,tests/program $*)
 	@touch $@
 
 target/key: examples/key.c include/mirror.h $(archive)
