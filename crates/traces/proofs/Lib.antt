@@ -13,6 +13,7 @@ pub mod Writes
 pub mod Pages
 pub mod MinimalUnique
 pub mod Pieces
+pub mod Questions
 pub mod Marking
 pub mod Possible
 pub mod Example

@@ -6,4 +6,5 @@ pub mod Writes
 pub mod Pages
 pub mod MinimalUnique
 pub mod Pieces
+pub mod Questions
 pub mod Marking
