@@ -1,5 +1,5 @@
 -- The list of `Example` as far as CAC, and what the claims about pages say of it: in a buffer of 26 sevens the page has 24 bytes, and two sevens stay behind it; one byte less than it has is refused.
-use Prim.Native.Nat.{ℕ, ◌+◌, ◌≤◌, ◌<◌}
+use Prim.Native.Nat.{ℕ, ◌≤◌, ◌<◌}
 use native.Mathlib.Omega.{arith}
 use mathlib.Core.Path.{◌≡◌, refl, ap, ◌∙◌, subst}
 use mathlib.Core.List.{[], ◌∷◌, ◌++◌}

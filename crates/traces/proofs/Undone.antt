@@ -24,7 +24,6 @@ use Rattle.transitions.proofs.Undone.{undone, takes_back}
 use Rattle.palindromes.specs.SearchSteps.{reported_steps}
 use Rattle.outcome.specs.Reply.{Reply, accepted}
 use Rattle.outcome.specs.Outcome.{Lent, Outcome, outcome, accepted_outcome, changed}
-use Rattle.traces.specs.Claims.{Added}
 use Rattle.outcome.proofs.Replies.{reply-of-removed}
 use Rattle.outcome.proofs.Refusals.{remove-accepted, carried-out}
 use Rattle.traces.proofs.State.{State, size_is}
