@@ -4,26 +4,27 @@
 
 ghost use Rattle.palindromes.specs.Refusal.{ask, find};
 ghost use Rattle.outcome.specs.Promise.{nothing, Asked};
-ghost use Rattle.outcome.specs.Verdict.{Verdict};
+ghost use Rattle.outcome.specs.Verdict.{Verdict, judged_number};
 
 use alphabet::all_letters;
 use outcome::answers::answer_found;
 use outcome::refuse;
+use refusal::Refusal;
 
-// The refusal number of finding a piece, 0 where it can be searched.
-fn judge_find(store: &[u8], piece: &[u8]) -> u64
-    ensures { Verdict (ask (find piece.now)) store.now nothing result }
+// Why a piece cannot be searched, if it cannot.
+fn judge_find(store: &[u8], piece: &[u8]) -> Result<(), Refusal>
+    ensures { Verdict (ask (find piece.now)) store.now nothing (judged_number result) }
 {
     if !audit::is_good(store) {
-        return 3;
+        return Err(Refusal::Damaged);
     }
     if piece.len() == 0 {
-        return 8;
+        return Err(Refusal::EmptyPiece);
     }
     if !all_letters(piece) {
-        return 4;
+        return Err(Refusal::NoLetter);
     }
-    0
+    Ok(())
 }
 
 // Whether a piece is a repeat of the record, and its row; and where the piece and its reversal
@@ -31,9 +32,8 @@ fn judge_find(store: &[u8], piece: &[u8]) -> u64
 pub fn find_piece(store: &[u8], piece: &[u8]) -> u64
     ensures { Asked (find piece.now) store.now nothing result nothing }
 {
-    let number = judge_find(store, piece);
-    if number != 0 {
-        return refuse(number);
+    match judge_find(store, piece) {
+        Ok(()) => answer_found(search::find(store, piece)),
+        Err(refusal) => refuse(refusal),
     }
-    answer_found(search::find(store, piece))
 }

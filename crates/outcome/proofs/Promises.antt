@@ -4,6 +4,9 @@ use Prim.Native.Nat.{ℕ, zero, suc, ◌<◌}
 use native.Mathlib.Omega.{arith}
 use mathlib.Core.Path.{◌≡◌, refl, sym, ◌∙◌, subst}
 use mathlib.Core.Bool.{true}
+use Rattle.refusal.specs.declared.Refusal.{Refusal}
+use Rattle.refusal.specs.Number.{number_of}
+use Rattle.refusal.proofs.Number.{no-refusal-zero}
 use Rattle.palindromes.specs.Word.{Word, is_letter}
 use Rattle.palindromes.specs.Reading.{Reading}
 use Rattle.palindromes.specs.End.{End}
@@ -46,6 +49,10 @@ module _ (call : Call) (b : Word) (l : Lent) where
   by-verdict n {r} (damaged h e) z p = broken h (subst (λ (m : ℕ). r ≡ packed (refused_with m)) e p)
   by-verdict zero (judged g e) z p = absurd (z refl)
   by-verdict (suc n) (judged g e) z p = refused n g (sym e) p
+
+  -- one that a refusal names is refused with its number
+  pub by-refusal : (f : Refusal) {r : ℕ} → Verdict call b l (number_of f) → r ≡ packed (refused_with (number_of f)) → Promise call b l r b l
+  by-refusal f v p = by-verdict (number_of f) v (no-refusal-zero f) p
 
   -- a call whose verdict is 0 is carried out, on a good store
   pub cleared : (n : ℕ) → Verdict call b l n → n ≡ 0 → Good b × (refusal (rule_of b) (view_in b l) call ≡ 0)

@@ -5,28 +5,26 @@
 pub mod answers;
 
 ghost use Rattle.std.specs.Prelude.{◌≡◌, ◌<◌};
-ghost use Rattle.outcome.specs.Reply.{bit, packed, accepted, answered, refused_with};
+ghost use Rattle.refusal.specs.Number.{number_of};
+ghost use Rattle.outcome.specs.Reply.{packed, accepted, answered, refused_with};
 ghost use Rattle.outcome.specs.Wide.{wide_answer};
 
-// A truth value as a number.
-fn bit_of(flag: bool) -> u64
-    ensures { (result ≡ bit flag) × (result < 2) }
-{
-    if flag { 1 } else { 0 }
-}
+use refusal::Refusal;
 
 // The answer of a call that was carried out.
+#[tactic(auto, unfolding(crate::specs::Reply::packed, crate::specs::Reply::accepted, crate::specs::Reply::bit))]
 pub fn pack(flag: bool, row: usize, first: usize, second: usize) -> u64
     requires { (row < 65536) × (first < 65536) × (second < 65536) }
     ensures { result ≡ packed (accepted flag row first second) }
 {
-    256 * bit_of(flag)
+    256 * u64::from(flag)
         + 65536 * row as u64
         + 4294967296 * first as u64
         + 281474976710656 * second as u64
 }
 
 // The answer of a call that was carried out and tells two sums, each of three bytes.
+#[tactic(auto, unfolding(crate::specs::Reply::packed, crate::specs::Reply::accepted, crate::specs::Reply::bit, crate::specs::Wide::wide_answer))]
 pub fn pack_wide(rows: usize, ends: usize) -> u64
     requires { (rows < 16777216) × (ends < 16777216) }
     ensures { result ≡ packed (answered (wide_answer rows ends)) }
@@ -35,8 +33,9 @@ pub fn pack_wide(rows: usize, ends: usize) -> u64
 }
 
 // The answer of a refused call.
-pub fn refuse(number: u64) -> u64
-    ensures { result ≡ packed (refused_with number) }
+#[tactic(auto, unfolding(crate::specs::Reply::packed, crate::specs::Reply::refused_with, crate::specs::Reply::bit))]
+pub fn refuse(refusal: Refusal) -> u64
+    ensures { result ≡ packed (refused_with (number_of refusal)) }
 {
-    number
+    refusal.number()
 }
