@@ -1,5 +1,6 @@
 -- The reader's answer: what the first line and the later lines were found to be says what `read_fasta` is, and from that the answer and the buffer follow.
 -- Rests on the definitions alone. Assumes nothing.
+use Rattle.std.specs.Prelude.{Result, Ok, Err}
 use Prim.Native.Nat.{ℕ, ◌+◌, ◌≤◌, ◌<◌}
 use mathlib.Core.Path.{◌≡◌, refl, sym, ap, ◌∙◌}
 use mathlib.Core.Bool.{true, false, true≢false}
@@ -11,10 +12,8 @@ use lib.Seq.{sets}
 use borrow.Author.Tests.{lt-ltb, le-ltb}
 use Rattle.palindromes.specs.Word.{Word}
 use Rattle.palindromes.specs.Fasta.{Fasta, refused, accepted, identifier_length, good_first_line, after_first_line, Body, fault, letters, read_lines, with_identifier, read_fasta}
-use Rattle.fasta.specs.Reader.{reading_of, written_to, Answers}
+use Rattle.fasta.specs.Reader.{lengths, reading_of, written_to, Answers}
 use Rattle.fasta_later_lines.specs.Passes.{tally_after, letters_of}
-use Rattle.fasta.specs.declared.Reading.TheVariants.{Accepted, Refused}
-use Rattle.fasta_later_lines.specs.declared.Tally.TheVariants.{Letters, Fault}
 
 -- ---- what the text says
 
@@ -38,17 +37,17 @@ good-text [] n good length-is = absurd (true≢false (sym good ∙ empty-is-bad 
 good-text (b ∷ t) n good length-is = rw (length-is, good, read_fasta)
 
 -- a fault is not a count
-no-fault-is-letters : (k m : ℕ) → Fault k ≡ Letters m → ⊥
+no-fault-is-letters : (k m : ℕ) → ◌≡◌ {A = Result ℕ ℕ} (Err k) (Ok m) → ⊥
 no-fault-is-letters k m e = let z : ◌≡◌ {A = ℕ} 0 1 = cc in omega arith
 
 -- a fault of the later lines is the text's
-pub fault-found : (n k : ℕ) (body : Body) → Fault k ≡ tally_after 0 body → with_identifier n body ≡ refused k
+pub fault-found : (n k : ℕ) (body : Body) → Err k ≡ tally_after 0 body → with_identifier n body ≡ refused k
 unfolding tally_after with_identifier
 fault-found n k (fault j) e = cc
 fault-found n k (letters w) e = absurd (no-fault-is-letters k (0 + length w) e)
 
 -- lines whose letters were counted are good and hold that many
-pub letters-found : (m : ℕ) (body : Body) → Letters m ≡ tally_after 0 body → (body ≡ letters (letters_of body)) × (length (letters_of body) ≡ m)
+pub letters-found : (m : ℕ) (body : Body) → Ok m ≡ tally_after 0 body → (body ≡ letters (letters_of body)) × (length (letters_of body) ≡ m)
 unfolding tally_after letters_of
 letters-found m (fault k) e = absurd (no-fault-is-letters k m (sym e))
 letters-found m (letters w) e = (refl, let counted : m ≡ 0 + length w = cc in omega arith)
@@ -61,17 +60,17 @@ good-lines n body good = ap (with_identifier n) good
 -- ---- the answer
 
 -- a refusal changes no byte
-pub answers-refusal : (f : Fasta) (k : ℕ) (out : Word) → f ≡ refused k → Answers f out (Refused k) out
+pub answers-refusal : (f : Fasta) (k : ℕ) (out : Word) → f ≡ refused k → Answers f out (Err k) out
 unfolding reading_of written_to
 answers-refusal f k out says = rw says (refl, refl)
 
 module _ (f : Fasta) (n m : ℕ) (w out : Word) (says : f ≡ accepted n w) (many : length w ≡ m) where
   -- too short a buffer is refused and stays
-  pub answers-short : length out < m → Answers f out (Refused 9) out
+  pub answers-short : length out < m → Answers f out (Err 9) out
   unfolding reading_of written_to
   answers-short short = rw (says, many, lt-ltb (length out) m short) (refl, refl)
 
   -- the letters stand at the buffer's front
-  pub answers-letters : (after : Word) → m ≤ length out → after ≡ sets out 0 w → Answers f out (Accepted n m) after
+  pub answers-letters : (after : Word) → m ≤ length out → after ≡ sets out 0 w → Answers f out (Ok (lengths n m)) after
   unfolding reading_of written_to
   answers-letters after room written = rw (says, many, le-ltb (length out) m room) (refl, written)

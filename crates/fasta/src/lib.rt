@@ -1,48 +1,48 @@
 // The FASTA reader: it judges a whole text, and only then puts the letters into the lent buffer.
 #![tactic(auto)]
 
-ghost use Rattle.std.specs.Prelude.{◌≡◌, true, length, drop};
+ghost use Rattle.std.specs.Prelude.{true, drop};
+ghost use Rattle.refusal.specs.Number.{with_number};
 ghost use Rattle.palindromes.specs.Fasta.{after_first_line, read_lines, with_identifier, read_fasta};
-ghost use Rattle.fasta.specs.Reader.{reading_of, written_to, Answers};
+ghost use Rattle.fasta.specs.Reader.{Answers};
 
 use fasta_first_line::{good_first_line, identifier_length, later_lines_at};
-use fasta_later_lines::{Tally, count_letters, write_letters};
+use fasta_later_lines::{count_letters, write_letters};
+use refusal::Refusal;
 
-// What the reader answers: the identifier's length and the number of letters, or a refusal.
+// What an accepted text has: the length of its identifier, and how many letters.
 #[derive(Clone, Copy)]
-pub enum Reading {
-    Accepted(usize, usize),
-    Refused(usize),
+pub struct Lengths {
+    pub identifier: usize,
+    pub letters: usize,
 }
 
 // Reads a FASTA text and puts its letters at the front of `out`.
-pub fn read(text: &[u8], out: &mut [u8]) -> Reading
-    ensures { (result ≡ reading_of (read_fasta text.now) (length out.old)) × (out.new ≡ written_to (read_fasta text.now) out.old) }
+pub fn read(text: &[u8], out: &mut [u8]) -> Result<Lengths, Refusal>
+    ensures { Answers (read_fasta text.now) out.old (with_number result) out.new }
 {
     if text.len() == 0 {
-        return Reading::Refused(10);
+        return Err(Refusal::Identifier);
     }
-    let n = identifier_length(text);
-    if good_first_line(text, n) {
-        read_later_lines(text, n, out)
-    } else {
-        Reading::Refused(10)
+    let identifier = identifier_length(text);
+    if !good_first_line(text, identifier) {
+        return Err(Refusal::Identifier);
     }
+    read_later_lines(text, identifier, out)
 }
 
-// The answer of a text whose first line is good and has an identifier of length n.
-fn read_later_lines(text: &[u8], n: usize, out: &mut [u8]) -> Reading
-    ensures { Answers (with_identifier n (read_lines (after_first_line (drop 1 text.now)) true 1024)) out.old result out.new }
+// The answer of a text whose first line is good and has an identifier of that length.
+fn read_later_lines(text: &[u8], identifier: usize, out: &mut [u8]) -> Result<Lengths, Refusal>
+    ensures { Answers (with_identifier identifier (read_lines (after_first_line (drop 1 text.now)) true 1024)) out.old (with_number result) out.new }
 {
     let start = later_lines_at(text);
-    match count_letters(text, start) {
-        Tally::Fault(number) => Reading::Refused(number),
-        Tally::Letters(m) => {
-            if out.len() < m {
-                return Reading::Refused(9);
-            }
-            write_letters(text, start, out);
-            Reading::Accepted(n, m)
-        }
+    let letters = count_letters(text, start)?;
+    if out.len() < letters {
+        return Err(Refusal::ShortBuffer);
     }
+    write_letters(text, start, out);
+    Ok(Lengths {
+        identifier,
+        letters,
+    })
 }

@@ -10,14 +10,12 @@ use identifier::is_identifier_byte;
 pub fn identifier_length(text: &[u8]) -> usize
     ensures { result ≡ identifier_length (drop 1 text.now) }
 {
-    let mut i = 1;
-    while i < text.len() {
+    for i in 1..text.len() {
         if !is_identifier_byte(text[i]) {
             return i - 1;
         }
-        i += 1;
     }
-    i - 1
+    text.len().saturating_sub(1)
 }
 
 // Whether an LF stands at this place.
@@ -64,12 +62,10 @@ pub fn good_first_line(text: &[u8], n: usize) -> bool
 pub fn later_lines_at(text: &[u8]) -> usize
     ensures { drop result text.now ≡ after_first_line (drop 1 text.now) }
 {
-    let mut i = 1;
-    while i < text.len() {
+    for i in 1..text.len() {
         if text[i] == b'\n' {
             return i + 1;
         }
-        i += 1;
     }
-    i
+    text.len()
 }

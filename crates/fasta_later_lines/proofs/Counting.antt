@@ -1,5 +1,6 @@
 -- The pass that counts: at each place the letters counted and what the rest yields make the answer for all the lines, and each turn keeps that so.
 -- Rests on the laws of `LaterLines`. Assumes nothing.
+use Rattle.std.specs.Prelude.{Result, Ok, Err}
 use Prim.Native.Nat.{ℕ, suc, ◌+◌, ◌-◌, ◌≤◌, ◌<◌}
 use mathlib.Core.Path.{◌≡◌, refl, sym, ap, ◌∙◌}
 use mathlib.Core.Bool.{Bool, true, false}
@@ -10,12 +11,10 @@ use Rattle.palindromes.specs.Fasta.{Body, fault, letters, with_letter, read_line
 use Rattle.fasta_later_lines.specs.Passes.{kind_named, tally_after}
 use Rattle.fasta_later_lines.specs.declared.ByteKind.{ByteKind}
 use Rattle.fasta_later_lines.specs.declared.ByteKind.TheVariants.{SecondHeader, LineEnd, BeforeLf, Letter, Other}
-use Rattle.fasta_later_lines.specs.declared.Tally.{Tally}
-use Rattle.fasta_later_lines.specs.declared.Tally.TheVariants.{Letters, Fault}
 use Rattle.fasta_later_lines.proofs.LaterLines.{read_at, kind_at, at-header, at_other, at-line-end, at-before-lf, at-letter-full, at-letter, at-end}
 
 -- at place i, with n letters counted, the rest yields the answer `whole`
-pub record Counted (s : Word) (i : ℕ) (line_start : Bool) (n : ℕ) (whole : Tally) : Type 0 where
+pub record Counted (s : Word) (i : ℕ) (line_start : Bool) (n : ℕ) (whole : Result ℕ ℕ) : Type 0 where
   pub room : n ≤ 1024
   pub rest : tally_after n (read_lines (drop i s) line_start (1024 - n)) ≡ whole
 
@@ -24,30 +23,30 @@ pub nothing-counted : (s : Word) (i : ℕ) → Counted s i true 0 (tally_after 0
 nothing-counted s i = record { room = omega arith; rest = refl }
 
 -- past the last place the letters counted are the answer
-pub all-counted : (s : Word) (i : ℕ) (line_start : Bool) (n : ℕ) (whole : Tally) → Counted s i line_start n whole → length s ≤ i → Letters n ≡ whole
+pub all-counted : (s : Word) (i : ℕ) (line_start : Bool) (n : ℕ) (whole : Result ℕ ℕ) → Counted s i line_start n whole → length s ≤ i → Ok n ≡ whole
 unfolding tally_after
-all-counted s i line_start n whole so_far outside = ap Letters (omega arith) ∙ rw (at-end s i line_start (1024 - n) outside) at so_far.rest
+all-counted s i line_start n whole so_far outside = ap (λ (m : ℕ). Ok m) (omega arith) ∙ rw (at-end s i line_start (1024 - n) outside) at so_far.rest
 
 -- a letter in front is one letter more
 one-counted : (n b : ℕ) (body : Body) → tally_after n (with_letter b body) ≡ tally_after (n + 1) body
 unfolding tally_after with_letter
 one-counted n b (fault k) = refl
-one-counted n b (letters w) = ap Letters (omega arith)
+one-counted n b (letters w) = ap (λ (m : ℕ). Ok m) (omega arith)
 
-module _ {s : Word} {i : ℕ} {line_start : Bool} {n : ℕ} {whole : Tally} (so_far : Counted s i line_start n whole) (inside : i < length s)
+module _ {s : Word} {i : ℕ} {line_start : Bool} {n : ℕ} {whole : Result ℕ ℕ} (so_far : Counted s i line_start n whole) (inside : i < length s)
     {kind : ByteKind} (met : kind_named kind ≡ kind_at s i line_start) where
   -- a `>` that begins a line
-  pub header-counted : kind ≡ SecondHeader → Fault 11 ≡ whole
+  pub header-counted : kind ≡ SecondHeader → Err 11 ≡ whole
   unfolding kind_named tally_after
   header-counted k = rw (at-header s i inside line_start (1024 - n) (sym met ∙ ap kind_named k)) at so_far.rest
 
   -- a byte that is not a letter
-  pub other-counted : kind ≡ Other → Fault 4 ≡ whole
+  pub other-counted : kind ≡ Other → Err 4 ≡ whole
   unfolding kind_named tally_after
   other-counted k = rw (at_other s i inside line_start (1024 - n) (sym met ∙ ap kind_named k)) at so_far.rest
 
   -- the 1,025th letter
-  pub full-counted : kind ≡ Letter → n ≡ 1024 → Fault 5 ≡ whole
+  pub full-counted : kind ≡ Letter → n ≡ 1024 → Err 5 ≡ whole
   unfolding kind_named tally_after
   full-counted k full = rw (full, at-letter-full s i inside line_start (sym met ∙ ap kind_named k)) at so_far.rest
 

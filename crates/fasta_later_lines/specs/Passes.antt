@@ -1,11 +1,9 @@
 -- DEFINITIONS. What the two passes over the later lines answer, in the terms of `kind_of` and `read_lines`. Nothing here is proved.
-use Rattle.std.specs.Prelude.{ℕ, ◌+◌, [], length}
+use Rattle.std.specs.Prelude.{ℕ, ◌+◌, Result, Ok, Err, [], length}
 use Rattle.palindromes.specs.Word.{Word}
 use Rattle.palindromes.specs.Fasta.{Kind, second_header, line_end, before_lf, letter, other, Body, fault, letters}
 use Rattle.fasta_later_lines.specs.declared.ByteKind.{ByteKind}
 use Rattle.fasta_later_lines.specs.declared.ByteKind.TheVariants.{SecondHeader, LineEnd, BeforeLf, Letter, Other}
-use Rattle.fasta_later_lines.specs.declared.Tally.{Tally}
-use Rattle.fasta_later_lines.specs.declared.Tally.TheVariants.{Letters, Fault}
 
 -- the code's kinds of bytes are those of the definition
 unfoldable pub kind_named : ByteKind → Kind
@@ -15,10 +13,10 @@ kind_named BeforeLf = before_lf
 kind_named Letter = letter
 kind_named Other = other
 
--- what counting answers if n letters were counted before these lines
-unfoldable pub tally_after : ℕ → Body → Tally
-tally_after n (fault k) = Fault k
-tally_after n (letters w) = Letters (n + length w)
+-- what counting answers if n letters were counted before these lines: how many there are, or the first fault's number
+unfoldable pub tally_after : ℕ → Body → Result ℕ ℕ
+tally_after n (fault k) = Err k
+tally_after n (letters w) = Ok (n + length w)
 
 -- the letters that the lines hold, none where they have a fault
 unfoldable pub letters_of : Body → Word

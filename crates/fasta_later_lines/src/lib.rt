@@ -8,9 +8,11 @@ ghost use Rattle.std.specs.Prelude.{◌≡◌, true, ◌+◌, ◌≤◌, ◌<◌
 ghost use Rattle.std.proofs.lemmas.List.Edits.{sets};
 ghost use Rattle.palindromes.specs.Word.{is_letter};
 ghost use Rattle.palindromes.specs.Fasta.{upper, letters, kind_of, read_lines};
+ghost use Rattle.refusal.specs.Number.{with_number};
 ghost use Rattle.fasta_later_lines.specs.Passes.{kind_named, tally_after, letters_of};
 
 use fasta_first_line::lf_at;
+use refusal::Refusal;
 
 // What a byte of a later line is.
 #[derive(Clone, Copy)]
@@ -20,13 +22,6 @@ pub enum ByteKind {
     BeforeLf,
     Letter,
     Other,
-}
-
-// What the later lines hold: so many letters, or the first fault's number.
-#[derive(Clone, Copy)]
-pub enum Tally {
-    Letters(usize),
-    Fault(usize),
 }
 
 // Whether a byte is read as a letter. All eight bytes are one mask to the compiler: to take the capital
@@ -74,30 +69,28 @@ fn kind_at(text: &[u8], at: usize, line_start: bool) -> ByteKind
     }
 }
 
-// Judges the lines from this place on and counts their letters.
-pub fn count_letters(text: &[u8], start: usize) -> Tally
-    ensures { result ≡ tally_after 0 (read_lines (drop start text.now) true 1024) }
+// Judges the lines from this place on and counts their letters: how many there are, or the first fault.
+pub fn count_letters(text: &[u8], start: usize) -> Result<usize, Refusal>
+    ensures { with_number result ≡ tally_after 0 (read_lines (drop start text.now) true 1024) }
 {
     let mut n = 0;
     let mut line_start = true;
-    let mut i = start;
-    while i < text.len() {
+    for i in start..text.len() {
         match kind_at(text, i, line_start) {
-            ByteKind::SecondHeader => return Tally::Fault(11),
-            ByteKind::Other => return Tally::Fault(4),
+            ByteKind::SecondHeader => return Err(Refusal::SecondHeader),
+            ByteKind::Other => return Err(Refusal::NoLetter),
             ByteKind::LineEnd => line_start = true,
             ByteKind::BeforeLf => {}
             ByteKind::Letter => {
                 if n == 1024 {
-                    return Tally::Fault(5);
+                    return Err(Refusal::TooManyLetters);
                 }
                 n += 1;
                 line_start = false;
             }
         }
-        i += 1;
     }
-    Tally::Letters(n)
+    Ok(n)
 }
 
 // Writes the letters of lines that were found good: every other byte there belongs to a line's end.
@@ -107,13 +100,11 @@ pub fn write_letters(text: &[u8], start: usize, out: &mut [u8])
     ensures { out.new ≡ sets out.old 0 (letters_of (read_lines (drop start text.now) true 1024)) }
 {
     let mut n = 0;
-    let mut i = start;
-    while i < text.len() {
+    for i in start..text.len() {
         let b = text[i];
         if reads_as_letter(b) {
             out[n] = capital(b);
             n += 1;
         }
-        i += 1;
     }
 }
