@@ -4,8 +4,7 @@
 // One byte more is read than a text may have, so that a text that is too long is seen to be one.
 #![tactic(auto)]
 
-ghost use Rattle.std.specs.Prelude.{◌≡◌, length};
-ghost use Rattle.mirrorlist.specs.Reading.{Within};
+ghost use Rattle.std.specs.Prelude.{◌≡◌, ◌≤◌, length, IfOk};
 
 use std::io;
 use std::io::Read;
@@ -24,27 +23,19 @@ fn lines_buffer() -> [u8; 46080]
     [0; 46080]
 }
 
-// What reading standard input came to: so many bytes, or a read that failed.
-#[derive(Clone, Copy)]
-enum Input {
-    Read(usize),
-    Failed(io::Error),
-}
-
 // Reads its input to the end, or until the buffer is full. The end is a read of no bytes. One
 // that fails leaves open what was still to come, so what was read before it is not answered.
-fn read_input(from: &mut impl Read, text: &mut [u8]) -> Input
-    ensures { Within result text.new }
+fn read_input(from: &mut impl Read, text: &mut [u8]) -> io::Result<usize>
+    ensures { IfOk result (λ n. n ≤ length text.new) }
 {
     let mut n = 0;
     while n < text.len() {
-        match from.read(&mut text[n..]) {
-            Err(error) => return Input::Failed(error),
-            Ok(0) => break,
-            Ok(more) => n += more,
+        match from.read(&mut text[n..])? {
+            0 => break,
+            more => n += more,
         }
     }
-    Input::Read(n)
+    Ok(n)
 }
 
 // Tells on standard error what failed, and why.
@@ -55,8 +46,8 @@ fn fail(rt: &impl Eprint, what: &str, error: io::Error) -> io::Result<()> {
 fn main(rt: HostRuntime) -> io::Result<()> {
     let mut text = text_buffer();
     let n = match read_input(&mut rt.stdin(), &mut text) {
-        Input::Read(n) => n,
-        Input::Failed(error) => return fail(&rt, "standard input", error),
+        Ok(n) => n,
+        Err(error) => return fail(&rt, "standard input", error),
     };
     let mut out = lines_buffer();
     let m = printing::print(&text[..n], &mut out);

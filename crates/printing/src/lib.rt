@@ -6,6 +6,7 @@ ghost use Rattle.std.specs.Prelude.{◌≡◌, ◌≤◌, length};
 ghost use Rattle.std.proofs.lemmas.List.Edits.{sets};
 ghost use Rattle.printing.specs.Printed.{printed};
 
+use refusal::Refusal;
 use refusal_line::put_refusal;
 use text_printing::print_text;
 
@@ -16,7 +17,7 @@ pub fn print(text: &[u8], out: &mut [u8]) -> usize
     ensures behind { result ≡ length (printed text.now) }
 {
     if 65536 < text.len() {
-        return put_refusal(out, 12);
+        return put_refusal(out, Refusal::LongText);
     }
     print_text(text, out)
 }

@@ -1,8 +1,9 @@
 -- What a reading of a text prints.
 -- Rests on what an accepted text says (`fasta`). Assumes nothing.
+use Rattle.std.specs.Prelude.{Result, Ok, Err}
 use Prim.Native.Nat.{ℕ, ◌+◌}
 use native.Mathlib.Omega.{arith}
-use mathlib.Core.Path.{◌≡◌, refl, ap, ◌∙◌}
+use mathlib.Core.Path.{◌≡◌, refl, sym, ap, ◌∙◌}
 use lib.ListN.{length, take, drop}
 use lib.Seq.{sets, length-sets, sets-eq, take_at}
 use borrow.Author.Tests.{le-ltb}
@@ -10,22 +11,22 @@ use Rattle.palindromes.specs.Word.{Word}
 use Rattle.palindromes.specs.Palindrome.{plain}
 use Rattle.palindromes.specs.Bed.{listing}
 use Rattle.palindromes.specs.Fasta.{Fasta, refused, accepted, read_fasta}
-use Rattle.fasta.specs.Reader.{reading_of, written_to}
-use Rattle.fasta.specs.declared.Reading.TheVariants.{Accepted, Refused}
+use Rattle.fasta.specs.Reader.{lengths, reading_of, written_to}
+use Rattle.fasta.specs.declared.Lengths.{Lengths}
 use Rattle.fasta.proofs.Accepted.{Accepts, accepts}
 use Rattle.refusal_line.specs.RefusalLine.{refused_line}
 use Rattle.text_printing.specs.PrintedFor.{identifier_of, printed_for}
 use Rattle.text_printing.specs.Read.{Read}
 
 -- there is room for every letter, so the text alone refuses
-pub reading-refused : (text : Word) (k : ℕ) → Refused k ≡ reading_of (read_fasta text) 1024 → read_fasta text ≡ refused k
+pub reading-refused : (text : Word) (k : ℕ) → Err k ≡ reading_of (read_fasta text) 1024 → read_fasta text ≡ refused k
 unfolding reading_of
 reading-refused text k e = by-text (read_fasta text) refl e
   where
-    by-text : (f : Fasta) → read_fasta text ≡ f → Refused k ≡ reading_of f 1024 → read_fasta text ≡ refused k
+    by-text : (f : Fasta) → read_fasta text ≡ f → Err k ≡ reading_of f 1024 → read_fasta text ≡ refused k
     by-text (refused n) s h = s ∙ ap refused (let z : n ≡ k = cc in z)
     by-text (accepted n w) s h =
-        let h' : Refused k ≡ Accepted n (length w) = rw (le-ltb 1024 (length w) (accepts text n w s).letters.1) at h in
+        let h' : ◌≡◌ {A = Result Lengths ℕ} (Err k) (Ok (lengths n (length w))) = rw (le-ltb 1024 (length w) (accepts text n w s).letters.1) at h in
         absurd (let z : ◌≡◌ {A = ℕ} 0 1 = cc in omega arith)
 
 -- a text that is read, and its letters
@@ -34,15 +35,16 @@ pub record Says (text : Word) (n m : ℕ) : Type 0 where
   pub says : read_fasta text ≡ accepted n word
   pub many : length word ≡ m
 
-pub reading-accepted : (text : Word) (n m : ℕ) → Accepted n m ≡ reading_of (read_fasta text) 1024 → Says text n m
+pub reading-accepted : (text : Word) (n m : ℕ) → Ok (lengths n m) ≡ reading_of (read_fasta text) 1024 → Says text n m
 unfolding reading_of
 reading-accepted text n m e = by-text (read_fasta text) refl e
   where
-    by-text : (f : Fasta) → read_fasta text ≡ f → Accepted n m ≡ reading_of f 1024 → Says text n m
+    by-text : (f : Fasta) → read_fasta text ≡ f → Ok (lengths n m) ≡ reading_of f 1024 → Says text n m
     by-text (refused k) s h = absurd (let z : ◌≡◌ {A = ℕ} 0 1 = cc in omega arith)
     by-text (accepted k w) s h =
-        let h' : Accepted n m ≡ Accepted k (length w) = rw (le-ltb 1024 (length w) (accepts text k w s).letters.1) at h in
-        record { word = w; says = s ∙ ap (λ (j : ℕ). accepted j w) (let z : k ≡ n = cc in z); many = let z : length w ≡ m = cc in z }
+        let h' : ◌≡◌ {A = Result Lengths ℕ} (Ok (lengths n m)) (Ok (lengths k (length w))) = rw (le-ltb 1024 (length w) (accepts text k w s).letters.1) at h in
+        let same : lengths n m ≡ lengths k (length w) = cc in
+        record { word = w; says = s ∙ ap (λ (x : Lengths). accepted x.identifier w) (sym same); many = ap (λ (x : Lengths). x.letters) (sym same) }
 
 module _ {text : Word} {n m : ℕ} (a : Says text n m) (l buffer : Word) (size : length l ≡ 1024) (e : buffer ≡ written_to (read_fasta text) l) where
   good-reading : Accepts text n a.word
@@ -75,14 +77,14 @@ module _ {text : Word} {n m : ℕ} (a : Says text n m) (l buffer : Word) (size :
 -- ---- what is written for a reading, with the buffer after it and the place behind what is written
 
 module _ (text out : Word) {out' : Word} {r : ℕ} where
-  pub refusal-written : (k : ℕ) → Refused k ≡ reading_of (read_fasta text) 1024 → out' ≡ sets out 0 (refused_line k) → r ≡ length (refused_line k)
+  pub refusal-written : (k : ℕ) → Err k ≡ reading_of (read_fasta text) 1024 → out' ≡ sets out 0 (refused_line k) → r ≡ length (refused_line k)
       → (out' ≡ sets out 0 (printed_for (read_fasta text) text)) × (r ≡ length (printed_for (read_fasta text) text))
   unfolding printed_for
   refusal-written k h e p =
       let f : refused_line k ≡ printed_for (read_fasta text) text = rw (reading-refused text k h) in
       (e ∙ ap (sets out 0) f, p ∙ ap length f)
 
-  pub list_written : (l buffer : Word) (n m : ℕ) → length l ≡ 1024 → Accepted n m ≡ reading_of (read_fasta text) 1024 → buffer ≡ written_to (read_fasta text) l
+  pub list_written : (l buffer : Word) (n m : ℕ) → length l ≡ 1024 → Ok (lengths n m) ≡ reading_of (read_fasta text) 1024 → buffer ≡ written_to (read_fasta text) l
       → out' ≡ sets out 0 (listing plain (identifier_of n text) (take m buffer)) → r ≡ length (listing plain (identifier_of n text) (take m buffer))
       → (out' ≡ sets out 0 (printed_for (read_fasta text) text)) × (r ≡ length (printed_for (read_fasta text) text))
   list_written l buffer n m size h b e p =

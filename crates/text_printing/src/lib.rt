@@ -10,7 +10,6 @@ ghost use Rattle.palindromes.specs.Fasta.{read_fasta};
 ghost use Rattle.text_printing.specs.PrintedFor.{identifier_of, printed_for};
 ghost use Rattle.text_printing.specs.Read.{Read};
 
-use fasta::Reading;
 use letters_listing::list_letters;
 use refusal_line::put_refusal;
 
@@ -31,9 +30,8 @@ pub fn print_text(text: &[u8], out: &mut [u8]) -> usize
     ensures behind { result ≡ length (printed_for (read_fasta text.now) text.now) }
 {
     let mut letters = [0u8; 1024];
-    let reading = fasta::read(text, &mut letters);
-    match reading {
-        Reading::Refused(number) => put_refusal(out, number),
-        Reading::Accepted(n, m) => list_read(text, n, &letters, m, out),
+    match fasta::read(text, &mut letters) {
+        Ok(read) => list_read(text, read.identifier, &letters, read.letters, out),
+        Err(refusal) => put_refusal(out, refusal),
     }
 }
