@@ -9,11 +9,12 @@ ghost use Rattle.palindromes.specs.Refusal.{ask, page};
 ghost use Rattle.store.specs.Layout.{letters_in};
 ghost use Rattle.store.specs.Good.{Good};
 ghost use Rattle.outcome.specs.Promise.{lending, AskedInto};
-ghost use Rattle.outcome.specs.Verdict.{Verdict};
+ghost use Rattle.outcome.specs.Verdict.{Verdict, judged_number};
 
 use genbank::{page_length, put_page};
 use outcome::{pack, refuse};
 use questions::record;
+use refusal::Refusal;
 use walk::frame::frame_of;
 
 // Writes the page of a good store's letters at the front of the buffer, and answers how many bytes it has.
@@ -29,26 +30,25 @@ fn write_page(b: &[u8], out: &mut [u8]) -> usize
     put_page(out, &b[base..end])
 }
 
-// The refusal number of printing the record, 0 where the page can be written.
-fn judge_page(store: &[u8], out: &[u8]) -> u64
-    ensures { Verdict (ask page) store.now (lending [] out.now) result }
+// Why the page cannot be written, if it cannot.
+fn judge_page(store: &[u8], out: &[u8]) -> Result<(), Refusal>
+    ensures { Verdict (ask page) store.now (lending [] out.now) (judged_number result) }
 {
     if !audit::is_good(store) {
-        return 3;
+        return Err(Refusal::Damaged);
     }
     if out.len() < page_length(record::length(store)) {
-        return 9;
+        return Err(Refusal::ShortBuffer);
     }
-    0
+    Ok(())
 }
 
 // Prints the record, and answers how many bytes the page has.
 pub fn print_record(store: &[u8], out: &mut [u8]) -> u64
     ensures { AskedInto page store.now out.old result out.new }
 {
-    let number = judge_page(store, out);
-    if number != 0 {
-        return refuse(number);
+    match judge_page(store, out) {
+        Ok(()) => pack(false, 0, write_page(store, out), 0),
+        Err(refusal) => refuse(refusal),
     }
-    pack(false, 0, write_page(store, out), 0)
 }

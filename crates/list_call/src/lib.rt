@@ -4,37 +4,37 @@
 
 ghost use Rattle.palindromes.specs.Refusal.{ask, list};
 ghost use Rattle.outcome.specs.Promise.{lending, Asked};
-ghost use Rattle.outcome.specs.Verdict.{Verdict};
+ghost use Rattle.outcome.specs.Verdict.{Verdict, judged_number};
 
 use identifier::is_identifier;
 use outcome::{pack, refuse};
+use refusal::Refusal;
 
-// The refusal number of listing, 0 where the list can be written.
-fn judge_list(store: &[u8], name: &[u8], scratch: &[u8], out: &[u8]) -> u64
-    ensures { Verdict (ask (list name.now)) store.now (lending scratch.now out.now) result }
+// Why the list cannot be written, if it cannot.
+fn judge_list(store: &[u8], name: &[u8], scratch: &[u8], out: &[u8]) -> Result<(), Refusal>
+    ensures { Verdict (ask (list name.now)) store.now (lending scratch.now out.now) (judged_number result) }
 {
     if !audit::is_good(store) {
-        return 3;
+        return Err(Refusal::Damaged);
     }
     if !is_identifier(name) {
-        return 10;
+        return Err(Refusal::Identifier);
     }
     if scratch.len() < listing::scratch_size(store) {
-        return 9;
+        return Err(Refusal::ShortBuffer);
     }
     if out.len() < listing::listing_length(store, name) {
-        return 9;
+        return Err(Refusal::ShortBuffer);
     }
-    0
+    Ok(())
 }
 
 // Writes the list of the repeats, and answers how many bytes it has.
 pub fn list_repeats(store: &[u8], name: &[u8], scratch: &mut [u8], out: &mut [u8]) -> u64
     ensures { Asked (list name.now) store.now (lending scratch.old out.old) result (lending scratch.new out.new) }
 {
-    let number = judge_list(store, name, scratch, out);
-    if number != 0 {
-        return refuse(number);
+    match judge_list(store, name, scratch, out) {
+        Ok(()) => pack(false, 0, listing::list(store, name, scratch, out), 0),
+        Err(refusal) => refuse(refusal),
     }
-    pack(false, 0, listing::list(store, name, scratch, out), 0)
 }

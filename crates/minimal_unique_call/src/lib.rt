@@ -7,6 +7,7 @@ ghost use Rattle.outcome.specs.Promise.{AskedInto};
 
 use minimal_unique::{count_minimal, put_minimal};
 use outcome::{pack, refuse};
+use refusal::Refusal;
 use unique_rows::mark_rows;
 
 // Writes where each stands, four bytes each, and answers how many there are.
@@ -14,14 +15,14 @@ pub fn list_minimal_unique(store: &[u8], out: &mut [u8]) -> u64
     ensures { AskedInto the_minimal_unique store.now out.old result out.new }
 {
     if !audit::is_good(store) {
-        return refuse(3);
+        return refuse(Refusal::Damaged);
     }
     let mut firsts = [0u16; 1024];
     let mut marks = [0u8; 1026];
     mark_rows(store, &mut firsts, &mut marks);
     let number = count_minimal(store, &firsts, &marks);
     if out.len() < 4 * number {
-        return refuse(9);
+        return refuse(Refusal::ShortBuffer);
     }
     put_minimal(store, &firsts, &marks, out);
     pack(false, 0, number, 0)

@@ -7,6 +7,7 @@ ghost use Rattle.outcome.specs.Promise.{AskedInto};
 
 use factorization::{factorize, put_ends};
 use outcome::{pack, refuse};
+use refusal::Refusal;
 use store::header;
 
 // Writes where each piece ends, two bytes each, and answers how many there are.
@@ -14,15 +15,15 @@ pub fn list_pieces(store: &[u8], out: &mut [u8]) -> u64
     ensures { AskedInto the_pieces store.now out.old result out.new }
 {
     if !audit::is_good(store) {
-        return refuse(3);
+        return refuse(Refusal::Damaged);
     }
     if header::reading(store) != 0 {
-        return refuse(14);
+        return refuse(Refusal::Inverted);
     }
     let mut lasts = [0u16; 1024];
     let number = factorize(store, &mut lasts).number;
     if out.len() < 2 * number {
-        return refuse(9);
+        return refuse(Refusal::ShortBuffer);
     }
     put_ends(store, &lasts, number, out);
     pack(false, 0, number, 0)

@@ -5,34 +5,34 @@
 ghost use Rattle.std.specs.Prelude.{[]};
 ghost use Rattle.palindromes.specs.Refusal.{ask, spell};
 ghost use Rattle.outcome.specs.Promise.{lending, AskedInto};
-ghost use Rattle.outcome.specs.Verdict.{Verdict};
+ghost use Rattle.outcome.specs.Verdict.{Verdict, judged_number};
 
 use outcome::{pack, refuse};
 use questions::rows;
+use refusal::Refusal;
 
-// The refusal number of spelling a row, 0 where it can be spelt.
-fn judge_spell(store: &[u8], row: u64, out: &[u8]) -> u64
-    ensures { Verdict (ask (spell row)) store.now (lending [] out.now) result }
+// Why a row cannot be spelt, if it cannot.
+fn judge_spell(store: &[u8], row: u64, out: &[u8]) -> Result<(), Refusal>
+    ensures { Verdict (ask (spell row)) store.now (lending [] out.now) (judged_number result) }
 {
     if !audit::is_good(store) {
-        return 3;
+        return Err(Refusal::Damaged);
     }
     if !rows::is_used(store, row as usize) {
-        return 7;
+        return Err(Refusal::NoSuchPlace);
     }
     if out.len() < spelling::spelling_length(store, row as usize) {
-        return 9;
+        return Err(Refusal::ShortBuffer);
     }
-    0
+    Ok(())
 }
 
 // Writes a row's repeat, and answers how many bytes it has.
 pub fn spell_row(store: &[u8], row: u64, out: &mut [u8]) -> u64
     ensures { AskedInto (spell row) store.now out.old result out.new }
 {
-    let number = judge_spell(store, row, out);
-    if number != 0 {
-        return refuse(number);
+    match judge_spell(store, row, out) {
+        Ok(()) => pack(false, 0, spelling::spell(store, row as usize, out), 0),
+        Err(refusal) => refuse(refusal),
     }
-    pack(false, 0, spelling::spell(store, row as usize, out), 0)
 }
