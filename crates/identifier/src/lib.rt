@@ -10,7 +10,7 @@ ghost use Rattle.palindromes.specs.Bed.{is_identifier_byte, is_identifier};
 pub fn is_identifier_byte(b: u8) -> bool
     ensures { result ≡ is_identifier_byte b }
 {
-    matches!(b, b'A'..=b'Z' | b'a'..=b'z' | b'0'..=b'9' | b'_')
+    b.is_ascii_alphanumeric() || b == b'_'
 }
 
 // Whether the bytes are an identifier.
