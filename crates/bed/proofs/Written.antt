@@ -1,20 +1,16 @@
--- Bytes written from the first on: what is left to store of a word after a byte of it, and that a writer that stands behind a word goes on with the
--- next (`Written`).
+-- Bytes written from a place on: a part of the buffer that is overwritten, and that a writer that stands behind a word goes on with the next
+-- (`Written`).
 -- Rests on the laws of bytes stored one after the other (`decimal`). Assumes nothing.
-use Prim.Native.Nat.{ℕ, ◌+◌, ◌<◌}
-use native.Mathlib.Omega.{arith}
-use native.Mathlib.Nat.{add-suc}
-use native.Mathlib.Numerals.{add-one}
-use mathlib.Core.Path.{◌≡◌, ap, ◌∙◌}
-use mathlib.Core.List.{◌∷◌, ◌++◌}
-use lib.ListN.{length, set, get_or, drop, length-append}
-use lib.Seq.{sets, drop-cons, length-sets}
+use Rattle.std.proofs.Common.{◌≡◌, ℕ, ◌+◌, ◌≤◌, ◌∷◌, ◌++◌, ap, ◌∙◌, sym, arith, add-one, length, set, length-append, append_assoc}
+use Rattle.std.proofs.Math.Seq.{drop-drop, length-sets}
+use Rattle.std.proofs.lemmas.List.Edits.{sets, sets-eq}
+use borrow.Rule.Slice.PartMut.{put_mid}
 use Rattle.palindromes.specs.Word.{Word}
 use Rattle.decimal.proofs.Stores.{sets-append}
 
--- what is left to store after the byte at i
-pub sets-next : (l : Word) (at i : ℕ) (w : Word) → i < length w → sets l (at + i) (drop i w) ≡ sets (set l (at + i) (get_or w i 0)) (at + (i + 1)) (drop (i + 1) w)
-sets-next l at i w h = rw (drop-cons w i 0 h) (cc (add-one i, add-suc at i))
+-- a part of the buffer that is overwritten by as many bytes is a word stored there
+pub sets-part : (l : Word) (at k : ℕ) (u : Word) → at + length u ≤ length l → k ≡ length u → put_mid at k l u ≡ sets l at u
+sets-part l at k u h e = rw (e, drop-drop (length u) at l, ← append_assoc) (sym (sets-eq u l at h))
 
 -- what a writer has when it stands behind a word: the buffer m is l with the word u stored from a place on, and i is the place behind it
 pub record Written (l : Word) (at : ℕ) (u m : Word) (i : ℕ) : Type 0 where

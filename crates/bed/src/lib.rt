@@ -15,12 +15,9 @@ pub fn copy(out: &mut [u8], at: usize, word: &[u8]) -> usize
     ensures written { out.new ≡ sets out.old at word.now }
     ensures behind { result ≡ at + length word.now }
 {
-    let mut i = 0;
-    while i < word.len() {
-        out[at + i] = word[i];
-        i += 1;
-    }
-    at + i
+    let end = at + word.len();
+    out[at..end].copy_from_slice(word);
+    end
 }
 
 // How many bytes a line has.

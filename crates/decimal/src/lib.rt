@@ -14,7 +14,7 @@ pub fn digits(n: usize) -> usize
     let mut rest = n;
     let mut count: usize = 1;
     while 10 <= rest {
-        rest = rest / 10;
+        rest /= 10;
         count += 1;
     }
     count
@@ -31,10 +31,10 @@ pub fn put_decimal(out: &mut [u8], at: usize, n: usize) -> usize
     let mut left = n;
     let mut i = end - 1;
     while 10 <= left {
-        out[i] = 48 + (left % 10) as u8;
-        left = left / 10;
+        out[i] = b'0' + (left % 10) as u8;
+        left /= 10;
         i -= 1;
     }
-    out[i] = 48 + left as u8;
+    out[i] = b'0' + left as u8;
     end
 }

@@ -1,12 +1,13 @@
 -- A word cut from the left into words of k letters: the first of them and the cutting of the rest, whatever bounds their number, and what holds of all words
 -- because it goes from the rest to the whole (`by-cut`).
 -- Rests on the library's laws of `take` and `drop`. Assumes nothing.
-use Prim.Native.Nat.{ℕ, zero, suc, ◌+◌, ◌≤◌, ◌<◌}
-use native.Mathlib.Omega.{arith}
-use mathlib.Core.Path.{◌≡◌, refl, sym, ap, ◌∙◌}
-use mathlib.Core.List.{List, [], ◌∷◌}
+use Rattle.std.proofs.Common.{◌≡◌, refl, sym, ap, ◌∙◌, ℕ, zero, suc, ◌+◌, ◌*◌, ◌≤◌, ◌<◌, min, arith, inl, inr}
+use Rattle.std.proofs.Common.{List, [], ◌∷◌, ◌++◌, append-nil, length, take, drop, length-append, length-drop}
+use Rattle.std.proofs.Math.ListN.{length-take, take-append-drop, drop_of_length-le}
+use Rattle.std.proofs.Math.Seq.{take_all, take-append_seam, drop-append_seam, drop-drop}
+use Rattle.std.proofs.lemmas.Bool.{cases_lt}
+use Rattle.std.proofs.lemmas.List.{nil_from_length}
 use native.Mathlib.Nat.{min-le_left}
-use lib.ListN.{length, take, drop, length-append, length-take, length-drop, take-append-drop}
 use Rattle.palindromes.specs.Word.{Word}
 use Rattle.palindromes.specs.Genbank.{cut_up_to, cut}
 
@@ -50,3 +51,25 @@ take-few k w = rw (length-take k w) (min-le_left k (length w))
 -- the letters that are taken and those that are left are all
 pub parts : (k : ℕ) (w : Word) → length (take k w) + length (drop k w) ≡ length w
 parts k w = sym (length-append (take k w) (drop k w)) ∙ ap length (take-append-drop k w)
+
+-- a piece in front of the rest that has `size` letters, or all that are left, is what is taken, and the rest is what is dropped
+pub cut-off : (size : ℕ) (x rest : Word) → length x ≡ min size (length (x ++ rest)) → (take size (x ++ rest) ≡ x) × (drop size (x ++ rest) ≡ rest)
+cut-off size x rest e =
+    elim (cases_lt (length (x ++ rest)) size) [
+      | inl short ↦
+          let none : rest ≡ [] = nil_from_length rest (omega (arith, length-append x rest)) in
+          (take_all size (x ++ rest) (omega arith) ∙ rw (none, append-nil), rw (drop_of_length-le (x ++ rest) {i = size} (omega arith), none))
+      | inr long ↦
+          let whole : size ≡ length x = omega arith in
+          rw whole (take-append_seam x rest, drop-append_seam x rest)
+    ]
+
+-- so where the rest of a word begins at a multiple of the size, the piece is taken there, and what it leaves begins at the next
+module _ (size n : ℕ) (w s x t : Word) (at : s ≡ drop (size * n) w) (cut : s ≡ x ++ t) (few : length x ≡ min size (length s)) where
+  pub piece-is : x ≡ take size (drop (size * n) w)
+  piece-is = sym (rw (← cut, at) at (cut-off size x t (rw cut at few)).0)
+
+  pub rest-is : t ≡ drop (size * (n + 1)) w
+  rest-is =
+      let next : size * n + size ≡ size * (n + 1) = omega arith in
+      sym (rw (← cut, at, drop-drop size (size * n) w, next) at (cut-off size x t (rw cut at few)).1)

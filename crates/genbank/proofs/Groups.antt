@@ -1,17 +1,18 @@
 -- The letters of a group and the groups of a line, as they are put into their arrays and written out. Assumes nothing.
-use Prim.Native.Nat.{ℕ, suc, ◌+◌, ◌-◌, ◌*◌, ◌≤◌, ◌<◌, min}
+use Prim.Native.Nat.{ℕ, ◌+◌, ◌*◌, ◌<◌, min}
 use native.Mathlib.Omega.{arith}
 use native.Mathlib.Decide.{dec_lt, ℕ_discrete}
 use native.Mathlib.Numerals.{add-one}
 use mathlib.Core.Path.{◌≡◌, refl, sym, ap, ◌∙◌}
 use mathlib.Core.List.{List, [], ◌∷◌, ◌++◌, map, map-append}
-use lib.ListN.{length, get_or, set, take, drop, length-set, length-map, length-take, length-drop, take-append-drop, drop_of_length-le}
-use lib.Seq.{sets, set-set, length-sets, take-suc, take-append_seam, length-take-le, get_or-take, drop-drop, drop-cons, get_or-set_same, get_or-set_other}
+use lib.ListN.{length, get_or, set, take, drop, length-set, length-map}
+use lib.Seq.{sets, set-set, length-sets, take-suc, length-take-le, get_or-set_same, get_or-set_other}
 use Rattle.palindromes.specs.Word.{Word}
 use Rattle.palindromes.specs.Genbank.{lower, cut, groups}
 use Rattle.decimal.proofs.Stores.{sets-append, stored-front}
 use Rattle.genbank.specs.Line.{group_at, SixOfTen, Holds}
-use Rattle.genbank.proofs.Cut.{cut-none, take-few}
+use Rattle.std.proofs.lemmas.List.{nil_from_length}
+use Rattle.genbank.proofs.Cut.{cut-none, cut-off, take-few}
 use Rattle.genbank.proofs.Size.{groups-more}
 
 -- one letter more at the front of an array
@@ -33,17 +34,6 @@ letter-more line₀ line g i w h k e =
     ∙ set-set line₀ g before (set (get_or (set line₀ g before) g []) i letter)
     ∙ ap (λ (a : Word). set line₀ g (set a i letter)) (get_or-set_same line₀ g before [] h)
     ∙ ap (set line₀ g) (front-more w (get_or line₀ g []) i k)
-
--- where a part of at most `size` letters begins at a place, it has r of them
-pub part-size : (size from r : ℕ) (w : Word) → r ≡ min size (length w - from) → r ≡ length (take size (drop from w))
-part-size size from r w e = e ∙ sym (length-take size (drop from w) ∙ ap (min size) (length-drop from w))
-
--- and these are what is taken
-pub part-is : (size from r : ℕ) (w : Word) → r ≡ min size (length w - from) → take (from + r - from) (drop from w) ≡ take size (drop from w)
-part-is size from r w e =
-    let part : Word = take size (drop from w) in
-    let all : from + r - from ≡ length part = omega (arith, part-size size from r w e) in
-    ap (λ (k : ℕ). take k (drop from w)) all ∙ ap (take (length part)) (sym (take-append-drop size (drop from w))) ∙ take-append_seam part (drop size (drop from w))
 
 -- six arrays of ten stay so when one of them is written
 pub shape-set : (line : List Word) (g : ℕ) (u : Word) → SixOfTen line → g < 6 → SixOfTen (set line g (sets (get_or line g []) 0 u))
@@ -80,21 +70,14 @@ group-more w line g s b old h below = go (dec_lt h g)
         let same : h ≡ g = omega arith in
         rw (same, get_or-set_same line g (sets array 0 letters) [] (omega (arith, s.six))) new
 
--- the groups of a line from number g on: that one behind its blank, then the later ones
-pub groups-from : (w : Word) (g : ℕ) → 10 * g < length w → groups (cut 10 (drop (10 * g) w)) ≡ (32 ∷ map lower (group_at g w)) ++ groups (cut 10 (drop (10 * (g + 1)) w))
-groups-from w g h =
-    let next : 10 * g + 10 ≡ 10 * (g + 1) = omega arith in
-    groups-more (drop (10 * g) w) (omega (arith, length-drop (10 * g) w))
-    ∙ ap (λ (r : Word). (32 ∷ map lower (group_at g w)) ++ groups (cut 10 r)) (drop-drop 10 (10 * g) w ∙ ap (λ (k : ℕ). drop k w) next)
+-- the groups of the letters that are left: that of the piece in front behind its blank, then those of the rest
+pub groups-from : (s x rest : Word) → s ≡ x ++ rest → length x ≡ min 10 (length s) → 0 < length s
+    → groups (cut 10 s) ≡ (32 ∷ map lower x) ++ groups (cut 10 rest)
+groups-from s x rest e few some =
+    let p = cut-off 10 x rest (rw e at few) in
+    groups-more s some ∙ rw (e, p.0, p.1)
 
 -- none where no letter is left
-pub no-groups : (w : Word) (g : ℕ) → length w ≤ 10 * g → groups (cut 10 (drop (10 * g) w)) ≡ []
+pub no-groups : (s : Word) → length s ≡ 0 → groups (cut 10 s) ≡ []
 unfolding groups
-no-groups w g h = rw (drop_of_length-le w h, cut-none 10) refl
-
--- the letters of an array from number i on: that one, then the later ones
-pub next-letter : (array : Word) (count i : ℕ) → i < count → count ≤ length array → drop i (take count array) ≡ (get_or array i 0 ∷ []) ++ drop (i + 1) (take count array)
-next-letter array count i h k =
-    drop-cons (take count array) i 0 (omega (arith, length-take-le count array k))
-    ∙ ap (λ (x : ℕ). x ∷ drop (suc i) (take count array)) (get_or-take count array i 0 h)
-    ∙ ap (λ (j : ℕ). get_or array i 0 ∷ drop j (take count array)) (sym (add-one i))
+no-groups s e = rw (nil_from_length s e, cut-none 10) refl

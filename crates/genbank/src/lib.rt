@@ -3,7 +3,7 @@
 // place behind it.
 #![tactic(auto)]
 
-ghost use Rattle.std.specs.Prelude.{◌≡◌, [], ◌∷◌, ◌++◌, map, ◌+◌, ◌<◌, ◌≤◌, min, length, get_or, set, take};
+ghost use Rattle.std.specs.Prelude.{◌≡◌, [], ◌∷◌, ◌++◌, map, ◌+◌, ◌<◌, ◌≤◌, length, get_or, set, take};
 ghost use Rattle.std.proofs.lemmas.List.Edits.{sets};
 ghost use Rattle.palindromes.specs.Word.{Word};
 ghost use Rattle.palindromes.specs.Bed.{decimal};
@@ -14,13 +14,11 @@ use bed::copy;
 use decimal::{digits, put_decimal};
 
 // The small letter of a capital; any other byte itself.
+#[tactic(auto, unfolding(palindromes::specs::Genbank::lower))]
 fn lower(b: u8) -> u8
     ensures { result ≡ lower b }
 {
-    match b {
-        b'A'..=b'Z' => b + 32,
-        _ => b,
-    }
+    b.to_ascii_lowercase()
 }
 
 // Puts at most ten letters in lower case to the front of group g of a line.
@@ -28,21 +26,9 @@ fn set_group(line: &mut [[u8; 10]; 6], g: usize, w: &[u8])
     requires { SixOfTen line.old × (g < 6) × (length w.now ≤ 10) }
     ensures { line.new ≡ set line.old g (sets (get_or line.old g []) 0 (map lower w.now)) }
 {
-    let mut i = 0;
-    while i < w.len() {
-        line[g][i] = lower(w[i]);
-        i += 1;
+    for (i, letter) in w.iter().enumerate() {
+        line[g][i] = lower(*letter);
     }
-}
-
-// The smaller of two numbers.
-fn min(a: usize, b: usize) -> usize
-    ensures { result ≡ min a b }
-{
-    if b < a {
-        return b;
-    }
-    a
 }
 
 // A line: six groups of ten, of which the last may be shorter and the later ones empty.
@@ -51,11 +37,8 @@ fn line(w: &[u8]) -> [[u8; 10]; 6]
     ensures { Line w.now result }
 {
     let mut line = [[b' '; 10]; 6];
-    let mut g = 0;
-    while 10 * g < w.len() {
-        let end = 10 * g + min(10, w.len() - 10 * g);
-        set_group(&mut line, g, &w[10 * g..end]);
-        g += 1;
+    for (g, group) in w.chunks(10).enumerate() {
+        set_group(&mut line, g, group);
     }
     line
 }
@@ -68,14 +51,11 @@ fn put_group(out: &mut [u8], at: usize, line: &[[u8; 10]; 6], g: usize, count: u
     ensures behind { result ≡ at + (count + 1) }
 {
     out[at] = b' ';
-    let mut end = at + 1;
-    let mut i = 0;
-    while i < count {
-        out[end] = line[g][i];
-        end += 1;
-        i += 1;
+    let from = at + 1;
+    for (i, letter) in line[g][..count].iter().enumerate() {
+        out[from + i] = *letter;
     }
-    end
+    from + count
 }
 
 // Writes the groups of a line.
@@ -84,13 +64,10 @@ fn put_groups(out: &mut [u8], at: usize, w: &[u8]) -> usize
     ensures written { out.new ≡ sets out.old at (groups (cut 10 w.now)) }
     ensures behind { result ≡ at + length (groups (cut 10 w.now)) }
 {
-    let n = w.len();
     let groups = line(w);
     let mut end = at;
-    let mut g = 0;
-    while 10 * g < n {
-        end = put_group(out, end, &groups, g, min(10, n - 10 * g));
-        g += 1;
+    for (g, group) in w.chunks(10).enumerate() {
+        end = put_group(out, end, &groups, g, group.len());
     }
     end
 }
@@ -102,12 +79,8 @@ fn put_place(out: &mut [u8], at: usize, place: usize) -> usize
     ensures behind { result ≡ at + 9 }
 {
     let first = at + 9 - digits(place);
-    let mut i = at;
-    while i < first {
-        out[i] = b' ';
-        i += 1;
-    }
-    put_decimal(out, i, place)
+    out[at..first].fill(b' ');
+    put_decimal(out, first, place)
 }
 
 // Writes a line of letters, the first of which has the place, and its LF.
@@ -129,7 +102,7 @@ pub fn page_length(n: usize) -> usize
     requires { n ≤ 1024 }
     ensures { (s : Word) → length s ≡ n → result ≡ length (genbank s) }
 {
-    10 + n + (n + 9) / 10 + 10 * ((n + 59) / 60)
+    10 + n + n.div_ceil(10) + 10 * n.div_ceil(60)
 }
 
 // Writes the page at the front of the buffer, and answers how many bytes it has.
@@ -140,11 +113,8 @@ pub fn put_page(out: &mut [u8], letters: &[u8]) -> usize
     ensures behind { result ≡ length (genbank letters.now) }
 {
     let mut at = copy(out, 0, b"ORIGIN\n");
-    let mut from = 0;
-    while from < letters.len() {
-        let end = from + min(60, letters.len() - from);
-        at = put_line(out, at, from + 1, &letters[from..end]);
-        from = end;
+    for (n, line) in letters.chunks(60).enumerate() {
+        at = put_line(out, at, 60 * n + 1, line);
     }
     copy(out, at, b"//\n")
 }

@@ -10,11 +10,7 @@ ghost use Rattle.mismatch.specs.Rule.{rule_of};
 pub fn partner(rule: &[u8], x: u8) -> u8
     ensures { result ≡ rule_of rule.now x }
 {
-    if (x as usize) < rule.len() {
-        rule[x as usize]
-    } else {
-        x
-    }
+    rule.get(usize::from(x)).copied().unwrap_or(x)
 }
 
 // The first of the outermost pairs of w whose letters are not partners, counted from 1, and 0 where
@@ -23,12 +19,10 @@ pub fn first_mismatch(rule: &[u8], w: &[u8], pairs: usize) -> usize
     requires { pairs ≤ length w.now }
     ensures { Mismatch (rule_of rule.now) w.now pairs result }
 {
-    let mut k = 0;
-    while k < pairs {
+    for k in 0..pairs {
         if w[k] != partner(rule, w[w.len() - 1 - k]) {
             return k + 1;
         }
-        k += 1;
     }
     0
 }

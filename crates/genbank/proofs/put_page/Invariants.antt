@@ -1,15 +1,18 @@
--- `genbank::put_page` writes the first line, the lines of letters one by one, and the last line. The loop's invariant: the lines from the letter `from` on and the last
--- one are left. The measure is the letters that are left.
-use Rattle.std.proofs.Common.{◌+◌, ◌-◌, ◌≤◌, ◌++◌, length, drop}
+-- The loop of `genbank::put_page`: the lines from number n on and the last one are left.
+use Rattle.std.proofs.Common.{◌≡◌, ◌+◌, ◌*◌, ◌++◌, drop}
+use Rattle.std.specs.Slice.Iter.{chunks_rest, chunks_size}
+use Rattle.std.specs.Iterator.Adapters.{enumerate_source, enumerate_count}
 use Rattle.palindromes.specs.Genbank.{cut, origin_lines, origin_end}
 use Rattle.genbank.proofs.Unwritten.{Unwritten}
 use Rattle.genbank.proofs.put_page.Given as goal
 
-abbrev pub invariant-loop-from : goal.invariant-loop-from
-invariant-loop-from l =
-    (l.from ≤ length l.letters)
-    × Unwritten l.initial.out l.initial.at (origin_lines 1 (cut 60 l.letters) ++ origin_end) l.out l.at
-    (origin_lines (l.from + 1) (cut 60 (drop l.from l.letters)) ++ origin_end)
-
-abbrev pub decreases-loop-from : goal.decreases-loop-from
-decreases-loop-from l = length l.letters - l.from
+abbrev pub invariant-loop-n : goal.invariant-loop-n
+invariant-loop-n l =
+    record {
+      can_next : goal.iterator-loop-n.can_next l.n-iterator;
+      is_finite : goal.iterator-loop-n.is_finite l.n-iterator;
+      size : chunks_size (enumerate_source l.n-iterator) ≡ 60;
+      rest : chunks_rest (enumerate_source l.n-iterator) ≡ drop (60 * enumerate_count l.n-iterator) l.letters;
+      left : Unwritten l.initial.out l.initial.at (origin_lines 1 (cut 60 l.letters) ++ origin_end) l.out l.at
+          (origin_lines (60 * enumerate_count l.n-iterator + 1) (cut 60 (chunks_rest (enumerate_source l.n-iterator))) ++ origin_end);
+    }
