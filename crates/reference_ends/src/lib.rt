@@ -20,7 +20,8 @@ pub fn longest_suffix(rule: &[u8], s: &[u8]) -> usize
         .unwrap_or(0)
 }
 
-// The length of the longest palindrome at the left end, 0 where there is none.
+// The length of the longest palindrome at the left end, 0 where there is none. It shares no more with
+// longest_suffix than the chain: what is tested is another part.
 pub fn longest_prefix(rule: &[u8], s: &[u8]) -> usize
     ensures { result ≡ length (longest_prefix (rule_of rule.now) s.now) }
 {

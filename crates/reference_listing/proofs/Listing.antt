@@ -1,4 +1,5 @@
--- The list `palindromes` gone through end by end: what is left of it after the first e letters, and what one letter more takes off. Holds for any partner rule, self-inverse or not.
+-- The list `palindromes` gone through end by end: what is left of it after the first e letters, and what one letter more takes off.
+-- Holds for any partner rule, self-inverse or not.
 -- Rests on `palindromes-snoc`: one letter more adds the longest palindrome at the right end where it is fresh, and nothing else.
 use Prim.Native.Nat.{ℕ, zero, suc, ◌+◌, ◌-◌, ◌<◌, ◌≤◌}
 use native.Mathlib.Nat.{le_refl}

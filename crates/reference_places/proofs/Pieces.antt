@@ -49,7 +49,8 @@ module _ (p s : Word) where
   left_end at h = cc (drop_of_length-le s h)
 
   left_step : (at : ℕ) → at < length s
-      → places_from at p (drop at s) ≡ cond (starts_with p (drop at s)) (at ∷ places_from (at + 1) p (drop (at + 1) s)) (places_from (at + 1) p (drop (at + 1) s))
+      → places_from at p (drop at s)
+      ≡ cond (starts_with p (drop at s)) (at ∷ places_from (at + 1) p (drop (at + 1) s)) (places_from (at + 1) p (drop (at + 1) s))
   unfolding places_from
   left_step at h = cc (drop-one s at h, add-one at)
 
@@ -68,7 +69,8 @@ unfolding first
 find-first test [] = refl
 find-first test (k ∷ ks) = go (test k) (find-first test ks)
   where
-    go : (b : Bool) → unwrap_or (find test ks) 0 ≡ first (filter test ks) → unwrap_or (cond b (Some k) (find test ks)) 0 ≡ first (cond b (k ∷ filter test ks) (filter test ks))
+    go : (b : Bool) → unwrap_or (find test ks) 0 ≡ first (filter test ks)
+        → unwrap_or (cond b (Some k) (find test ks)) 0 ≡ first (cond b (k ∷ filter test ks) (filter test ks))
     go true e = refl
     go false e = e
 

@@ -41,8 +41,8 @@ numbers =
     (λ s x t h. next (range_inclusive_start s) (range_inclusive_start t) (left s) (left t) (range_inclusive_exhausted t) h.1.1 (spent t) h.1.2
     ∙ ap (λ (y : ℕ). y ∷ range_with_len (range_inclusive_start t) (left t)) (sym h.1.0))
 
-pub YieldsList-from_inclusive : {s : RangeInclusive ℕ} (a b n : ℕ) → range_inclusive_start s ≡ a → range_inclusive_end s ≡ b → range_inclusive_exhausted s ≡ false
-    → b + 1 - a ≡ n → YieldsList nat_range_inclusive_steps (λ x. x) s (range_with_len a n)
+pub YieldsList-from_inclusive : {s : RangeInclusive ℕ} (a b n : ℕ) → range_inclusive_start s ≡ a → range_inclusive_end s ≡ b
+    → range_inclusive_exhausted s ≡ false → b + 1 - a ≡ n → YieldsList nat_range_inclusive_steps (λ x. x) s (range_with_len a n)
 YieldsList-from_inclusive {s} a b n p q r e =
     let f : left s ≡ n = omega (arith, fresh s r) in
     let g : range_with_len (range_inclusive_start s) (left s) ≡ range_with_len a n = cc in
@@ -56,11 +56,13 @@ countdown a (suc n) = (a + n) ∷ countdown a n
 last : (s : RangeInclusive ℕ) (m : ℕ) → m + 1 ≡ left s → range_inclusive_end s ≡ range_inclusive_start s + m
 last s m = go (range_inclusive_exhausted s)
   where
-    go : (t : Bool) → m + 1 ≡ range_inclusive_len (λ x y. y - x) (range_inclusive_start s) (range_inclusive_end s) t → range_inclusive_end s ≡ range_inclusive_start s + m
+    go : (t : Bool) → m + 1 ≡ range_inclusive_len (λ x y. y - x) (range_inclusive_start s) (range_inclusive_end s) t
+        → range_inclusive_end s ≡ range_inclusive_start s + m
     go true e = absurd (omega arith)
     go false e = omega arith
 
-numbers_back : (s : Rev (RangeInclusive ℕ)) → YieldsList (rev_steps nat_range_inclusive_steps_back) (λ x. x) s (countdown (range_inclusive_start (rev_source s)) (left (rev_source s)))
+numbers_back : (s : Rev (RangeInclusive ℕ))
+    → YieldsList (rev_steps nat_range_inclusive_steps_back) (λ x. x) s (countdown (range_inclusive_start (rev_source s)) (left (rev_source s)))
 numbers_back =
     YieldsList-from_shown (rev_steps nat_range_inclusive_steps_back) (λ x. x) (λ s. countdown (range_inclusive_start (rev_source s)) (left (rev_source s)))
     (λ s t h. ap (λ (n : ℕ). length (countdown (range_inclusive_start (rev_source s)) n)) h.1.0)
@@ -71,8 +73,8 @@ numbers_back =
     let here : a + m ≡ x = omega (arith, h.1.0, last (rev_source s) m h.1.1) in
     ap (countdown a) more ∙ ap (λ (y : ℕ). y ∷ countdown a m) here ∙ ap (λ (b : ℕ). x ∷ countdown b m) (sym h.0))
 
-pub YieldsList-from_countdown : {s : Rev (RangeInclusive ℕ)} {r : RangeInclusive ℕ} (a b n : ℕ) → rev_source s ≡ r → range_inclusive_start r ≡ a → range_inclusive_end r ≡ b
-    → range_inclusive_exhausted r ≡ false → b + 1 - a ≡ n → YieldsList (rev_steps nat_range_inclusive_steps_back) (λ x. x) s (countdown a n)
+pub YieldsList-from_countdown : {s : Rev (RangeInclusive ℕ)} {r : RangeInclusive ℕ} (a b n : ℕ) → rev_source s ≡ r → range_inclusive_start r ≡ a
+    → range_inclusive_end r ≡ b → range_inclusive_exhausted r ≡ false → b + 1 - a ≡ n → YieldsList (rev_steps nat_range_inclusive_steps_back) (λ x. x) s (countdown a n)
 YieldsList-from_countdown {s} {r} a b n p from to unspent e =
     let f : left r ≡ n = omega (arith, fresh r unspent) in
     let g : countdown (range_inclusive_start (rev_source s)) (left (rev_source s)) ≡ countdown a n = cc in

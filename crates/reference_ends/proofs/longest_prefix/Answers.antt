@@ -13,5 +13,6 @@ returns c =
     let s = c.args.s.now in
     let range = c.new.ensures in
     let found = find_from_yields_List (begins_alike σ s) _ _ c.find.result c.find.ensures.ran
-    (YieldsList-from_countdown 1 (length s) (length s) c.rev.ensures.source range.start range.end range.exhausted (omega arith)) (λ x b q k. search (rules, tests)) in
+    (YieldsList-from_countdown 1 (length s) (length s) c.rev.ensures.source range.start range.end range.exhausted (omega arith))
+    (λ x b q k. search (rules, tests)) in
     c.unwrap_or.ensures ∙ ap (λ o. unwrap_or o 0) (sym (option_map_id c.find.result) ∙ found) ∙ prefix-found σ s
