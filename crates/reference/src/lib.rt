@@ -13,12 +13,6 @@ ghost use Rattle.palindromes.specs.Record.{palindromes, count, longest_length, l
 ghost use Rattle.palindromes.specs.Node.{spelt, spelling_of, link_of};
 ghost use Rattle.mismatch.specs.Rule.{rule_of};
 
-fn number(t: bool) -> u64
-    ensures { result ≡ cond t 1 0 }
-{
-    if t { 1 } else { 0 }
-}
-
 pub fn reference_partner(rule: &[u8], x: u8) -> u64
     ensures { result ≡ rule_of rule.now x }
 {
@@ -34,19 +28,19 @@ pub fn reference_first_mismatch(rule: &[u8], w: &[u8]) -> u64
 pub fn reference_is_symmetric(rule: &[u8], w: &[u8]) -> u64
     ensures { result ≡ cond (is_symmetric (rule_of rule.now) w.now) 1 0 }
 {
-    number(reference_symmetry::is_symmetric(rule, w))
+    u64::from(reference_symmetry::is_symmetric(rule, w))
 }
 
 pub fn reference_is_palindrome(rule: &[u8], w: &[u8]) -> u64
     ensures { result ≡ cond (is_palindrome (rule_of rule.now) w.now) 1 0 }
 {
-    number(reference_symmetry::is_palindrome(rule, w))
+    u64::from(reference_symmetry::is_palindrome(rule, w))
 }
 
 pub fn reference_starts_with(p: &[u8], s: &[u8], at: usize) -> u64
     ensures { result ≡ cond (starts_with p.now (drop at s.now)) 1 0 }
 {
-    number(reference_places::starts_with(p, s, at))
+    u64::from(reference_places::starts_with(p, s, at))
 }
 
 pub fn reference_frequency(p: &[u8], s: &[u8]) -> u64
@@ -64,13 +58,13 @@ pub fn reference_first_place(p: &[u8], s: &[u8]) -> u64
 pub fn reference_stands(p: &[u8], s: &[u8]) -> u64
     ensures { result ≡ cond (stands p.now s.now) 1 0 }
 {
-    number(reference_places::stands(p, s))
+    u64::from(reference_places::stands(p, s))
 }
 
 pub fn reference_stands_once(p: &[u8], s: &[u8]) -> u64
     ensures { result ≡ cond (stands_once p.now s.now) 1 0 }
 {
-    number(reference_places::stands_once(p, s))
+    u64::from(reference_places::stands_once(p, s))
 }
 
 pub fn reference_longest_suffix(rule: &[u8], s: &[u8]) -> u64

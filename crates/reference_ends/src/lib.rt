@@ -14,36 +14,30 @@ use reference_symmetry::is_symmetric;
 pub fn longest_suffix(rule: &[u8], s: &[u8]) -> usize
     ensures { result ≡ length (longest_suffix (rule_of rule.now) s.now) }
 {
-    let mut i = 0;
-    while i < s.len() {
-        if is_symmetric(rule, &s[i..]) {
-            return s.len() - i;
-        }
-        i += 1;
-    }
-    0
+    (1..=s.len())
+        .rev()
+        .find(|l| is_symmetric(rule, &s[s.len() - *l..]))
+        .unwrap_or(0)
 }
 
-// The length of the longest palindrome at the left end, 0 where there is none.
+// The length of the longest palindrome at the left end, 0 where there is none. It shares no more with
+// longest_suffix than the chain: what is tested is another part.
 pub fn longest_prefix(rule: &[u8], s: &[u8]) -> usize
     ensures { result ≡ length (longest_prefix (rule_of rule.now) s.now) }
 {
-    let mut e = s.len();
-    while 0 < e {
-        if is_symmetric(rule, &s[..e]) {
-            return e;
-        }
-        e -= 1;
-    }
-    0
+    (1..=s.len())
+        .rev()
+        .find(|l| is_symmetric(rule, &s[..*l]))
+        .unwrap_or(0)
 }
 
 // The length of what the suffix link of v spells: the longest palindrome that ends v and is not v.
 pub fn link_length(rule: &[u8], v: &[u8]) -> usize
     ensures { result ≡ length (spelling_of (link_of (rule_of rule.now) (spelt v.now))) }
 {
-    if v.len() == 0 {
-        return 0;
+    if v.is_empty() {
+        0
+    } else {
+        longest_suffix(rule, &v[1..])
     }
-    longest_suffix(rule, &v[1..])
 }

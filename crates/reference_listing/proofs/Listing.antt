@@ -1,21 +1,25 @@
--- The list `palindromes` gone through end by end: what is left of it after the first e letters, and what one letter more takes off. Holds for any partner rule, self-inverse or not.
+-- The list `palindromes` gone through end by end: what is left of it after the first e letters, and what one letter more takes off.
+-- Holds for any partner rule, self-inverse or not.
 -- Rests on `palindromes-snoc`: one letter more adds the longest palindrome at the right end where it is fresh, and nothing else.
-use Prim.Native.Nat.{ℕ, suc, ◌+◌, ◌-◌, ◌<◌, ◌≤◌}
+use Prim.Native.Nat.{ℕ, zero, suc, ◌+◌, ◌-◌, ◌<◌, ◌≤◌}
 use native.Mathlib.Nat.{le_refl}
 use native.Mathlib.Omega.{arith}
 use mathlib.Core.Path.{◌≡◌, refl, sym, ap, ◌∙◌}
-use mathlib.Core.Bool.{Bool, true, false, cond}
-use mathlib.Core.List.{List, [], ◌∷◌, ◌++◌, append_assoc, append-nil}
-use mir.Val.{bool_byte}
-use lib.Dec.{ltb}
-use lib.ListN.{length, get_or, take, drop, length-append, length-drop, take-append-drop, drop_of_length-le}
+use mathlib.Core.Bool.{Bool, true, false, cond, not}
+use mathlib.Core.List.{List, [], ◌∷◌, ◌++◌, map, append_assoc, append-nil}
+use denote.Ref.{Bor}
+use lib.ListN.{length, get_or, take, drop, length-append, take-append-drop, drop_of_length-le}
 use lib.Seq.{append_snoc, drop_at, take-append_seam, length-take-le, take-length}
-use borrow.Author.Tests.{ltb-true, ltb-false}
+use borrow.Author.Tests.{ne_eqb}
+use Rattle.std.specs.Prelude.{Option, Some, None, MatchOption, nat_eq}
+use Rattle.std.specs.Option.{option_map, unwrap_or}
+use Rattle.std.specs.List.{filter, range_with_len, slice_get}
+use Rattle.std.proofs.lemmas.Option.{unwrap_or-slice_get}
 use Rattle.palindromes.specs.Word.{Word}
 use Rattle.palindromes.specs.Place.{Suffix, stands}
-use Rattle.palindromes.specs.Record.{palindromes, longest_suffix}
+use Rattle.palindromes.specs.Record.{palindromes, count, longest_suffix}
 use Rattle.palindromes.specs.End.{without_last, at_right, added, removed}
-use Rattle.palindromes.proofs.Words.{suffix_refl, suffix_trans, suffix-empty, suffix-stands, suffix-length, no-letters, removed-added}
+use Rattle.palindromes.proofs.Words.{suffix_refl, suffix_trans, suffix-empty, suffix-stands, suffix-length, removed-added}
 use Rattle.palindromes.proofs.Places.{stands-false}
 use Rattle.palindromes.proofs.Longest.{longest-suffix}
 use Rattle.palindromes.proofs.Palindromes.{fresh, palindromes-empty, palindromes-snoc}
@@ -33,10 +37,6 @@ without-last (x ∷ y ∷ w) =
     let e : suc (suc (length w)) - 1 ≡ suc (suc (length w) - 1) = omega arith in
     ap {B = Word} (λ u. x ∷ u) (without-last (y ∷ w)) ∙ ap (λ (n : ℕ). take n (x ∷ y ∷ w)) (sym e)
 
--- how long a part is
-pub part_length : (s : Word) (a e : ℕ) → a ≤ e → e ≤ length s → length (part s a e) ≡ e - a
-part_length s a e h k = length-take-le (e - a) (drop a s) (omega (arith, length-drop a s))
-
 -- a suffix of the first e letters is where its length says
 pub suffix-part : {v : Word} (s : Word) (e : ℕ) → e ≤ length s → Suffix v (take e s) → part s (e - length v) e ≡ v
 suffix-part {v} s e h p =
@@ -52,22 +52,26 @@ suffix-part {v} s e h p =
       take-append_seam v (drop e s),
     )
 
--- a word that is fresh, with the empty word in the place of one that is not: nothing is added, or the word is
-fresh-none : (w t : Word) → length (cond (stands w t) [] w) ≡ 0 → fresh w t ≡ []
-unfolding fresh
-fresh-none w t = go (stands w t) refl
-  where
-    go : (b : Bool) → stands w t ≡ b → length (cond b [] w) ≡ 0 → cond b [] (w ∷ []) ≡ []
-    go true e z = refl
-    go false e z = absurd (stands-false w t e (rw (no-letters w (omega arith)) (suffix-stands (suffix-empty t))))
+-- whether a word has a letter, as the code tests it
+abbrev pub non-empty : Word → Bool
+non-empty w = not (nat_eq (length w) 0)
 
-fresh-one : (w t : Word) → (length (cond (stands w t) [] w) ≡ 0 → ⊥) → fresh w t ≡ cond (stands w t) [] w ∷ []
+non-empty-cons : (x : ℕ) (w : Word) → non-empty (x ∷ w) ≡ true
+non-empty-cons x w = ap not (ne_eqb (length (x ∷ w)) 0 (λ e. omega arith))
+
+-- a word that does not stand in t has a letter
+some-letter : (w t : Word) → stands w t ≡ false → non-empty w ≡ true
+some-letter [] t e = absurd (stands-false [] t e (suffix-stands (suffix-empty t)))
+some-letter (x ∷ w) t e = non-empty-cons x w
+
+-- a word that is fresh, with the empty word in the place of one that is not
+fresh-step : (w t : Word) (rest : List Word) → fresh w t ++ rest ≡ cond (non-empty (cond (stands w t) [] w)) (cond (stands w t) [] w ∷ rest) rest
 unfolding fresh
-fresh-one w t = go (stands w t)
+fresh-step w t rest = go (stands w t) refl
   where
-    go : (b : Bool) → (length (cond b [] w) ≡ 0 → ⊥) → cond b [] (w ∷ []) ≡ cond b [] w ∷ []
-    go true n = absurd (n refl)
-    go false n = refl
+    go : (b : Bool) → stands w t ≡ b → cond b [] (w ∷ []) ++ rest ≡ cond (non-empty (cond b [] w)) (cond b [] w ∷ rest) rest
+    go true e = refl
+    go false e = sym (ap (λ (b : Bool). cond b (w ∷ rest) rest) (some-letter w t e))
 
 module _ (σ : ℕ → ℕ) where
   -- the new palindrome at the end of w is the longest there, or empty
@@ -106,6 +110,14 @@ module _ (σ : ℕ → ℕ) where
     pub new_none : l ≡ 0 → 0 ≡ length (new_at_end σ w)
     new_none z = omega (arith, suffix-length (new-shorter w))
 
+  -- it lies in w, l letters back from the end
+  pub new-within : (w : Word) → length (new_at_end σ w) ≤ length w
+  new-within w = suffix-length (new-suffix w)
+
+  pub new-part : (w : Word) (l : ℕ) → l ≡ length (new_at_end σ w) → part w (length w - l) (length w) ≡ new_at_end σ w
+  new-part w l e =
+      ap (λ (n : ℕ). part w (length w - n) (length w)) e ∙ suffix-part {v = new_at_end σ w} w (length w) (le_refl (length w)) (rw take-length (new-suffix w))
+
   -- ---- the list
 
   -- the palindromes that end first in u, behind t
@@ -139,46 +151,44 @@ module _ (σ : ℕ → ℕ) where
     unfolding list_left new_from
     left-none e h = ap (new_from (take e s)) (drop_of_length-le s h)
 
-    module _ (e : ℕ) (h : e < length s) where
-      left_step : list_left e ≡ fresh (longest_suffix σ (take (e + 1) s)) (take e s) ++ list_left (e + 1)
-      unfolding list_left new_from
-      left_step = cc (drop-one s e h, take-one s e h)
+    -- the new palindrome at the end of the first e letters
+    abbrev pub new : ℕ → Word
+    new e = new_at_end σ (take e s)
 
-      new-fresh : new_at_end σ (take (e + 1) s) ≡ cond (stands (longest_suffix σ (take (e + 1) s)) (take e s)) [] (longest_suffix σ (take (e + 1) s))
+    module _ (e : ℕ) (h : e < length s) where
+      new-fresh : new (e + 1) ≡ cond (stands (longest_suffix σ (take (e + 1) s)) (take e s)) [] (longest_suffix σ (take (e + 1) s))
       unfolding new_at_end added removed
       new-fresh = cc (take-one s e h, removed-added at_right (get_or s e 0) (take e s))
 
-      module _ (l : ℕ) (new : l ≡ length (new_at_end σ (take (e + 1) s))) where
-        -- where the first e + 1 letters have nothing new at their end, what is left stays
-        pub left-old : l ≡ 0 → list_left e ≡ list_left (e + 1)
-        left-old z = cc (left_step, fresh-none (longest_suffix σ (take (e + 1) s)) (take e s) (rw new-fresh at (sym new ∙ z)))
+      left_step : list_left e ≡ cond (non-empty (new (e + 1))) (new (e + 1) ∷ list_left (e + 1)) (list_left (e + 1))
+      unfolding list_left new_from
+      left_step = cc (drop-one s e h, take-one s e h, fresh-step (longest_suffix σ (take (e + 1) s)) (take e s) (list_left (e + 1)), new-fresh)
 
-        -- and where they have, that goes
-        pub left-new : (l ≡ 0 → ⊥) → list_left e ≡ new_at_end σ (take (e + 1) s) ∷ list_left (e + 1)
-        left-new n = cc (left_step, new-fresh, fresh-one (longest_suffix σ (take (e + 1) s)) (take e s) (λ z. n (cc (new-fresh))))
+    left-filter : (n e : ℕ) → e + n ≡ length s → list_left e ≡ filter non-empty (map new (range_with_len (e + 1) n))
+    left-filter zero e q = left-none e (omega arith)
+    left-filter (suc n) e q = let rest = left-filter n (e + 1) (omega arith) in cc (left_step e (omega arith))
 
-        -- it lies in the record, l letters back from there
-        pub new-within : l ≤ e + 1
-        new-within = omega (arith, suffix-length (new-suffix (take (e + 1) s)), length-take-le (e + 1) s (omega arith))
+    -- the list is that of the new palindromes at the ends, where there is one
+    pub palindromes-filter : palindromes σ s ≡ filter non-empty (map new (range_with_len 1 (length s)))
+    palindromes-filter = left-all ∙ left-filter (length s) 0 (omega arith)
 
-        pub new-part : part s (e + 1 - l) (e + 1) ≡ new_at_end σ (take (e + 1) s)
-        new-part = ap (λ (n : ℕ). part s (e + 1 - n) (e + 1)) new ∙ suffix-part s (e + 1) (omega arith) (new-suffix (take (e + 1) s))
+    counted : (es : List ℕ) → length (filter non-empty (map new es)) ≡ length (filter (λ (e : ℕ). non-empty (new e)) es)
+    counted [] = refl
+    counted (e ∷ es) = go (non-empty (new e)) (counted es)
+      where
+        go : (b : Bool) → length (filter non-empty (map new es)) ≡ length (filter (λ (e : ℕ). non-empty (new e)) es)
+            → length (cond b (new e ∷ filter non-empty (map new es)) (filter non-empty (map new es)))
+            ≡ length (cond b (e ∷ filter (λ (e : ℕ). non-empty (new e)) es) (filter (λ (e : ℕ). non-empty (new e)) es))
+        go true q = ap suc q
+        go false q = q
 
-        -- ---- what the loops take off what is left
+    -- their number is that of the ends that have one
+    pub count-filter : count σ s ≡ length (filter (λ (e : ℕ). non-empty (new e)) (range_with_len 1 (length s)))
+    unfolding count
+    count-filter = ap length palindromes-filter ∙ counted (range_with_len 1 (length s))
 
-        -- one palindrome less to count
-        pub length-left : length (list_left e) ≡ bool_byte (ltb 0 l) + length (list_left (e + 1))
-        length-left = go (ltb 0 l) refl
-          where
-            go : (t : Bool) → ltb 0 l ≡ t → length (list_left e) ≡ bool_byte t + length (list_left (e + 1))
-            go true q = omega (arith, ap length (left-new (λ z. omega (arith, ltb-true 0 l q))))
-            go false q = omega (arith, ap length (left-old (omega (arith, ltb-false 0 l q))))
-
-        -- the k-th of what is left: this one, or one further on
-        pub nth_here : (k : ℕ) → (l ≡ 0 → ⊥) → k ≡ 0 → part s (e + 1 - l) (e + 1) ≡ get_or (list_left e) k []
-        nth_here k n z = cc (new-part, left-new n)
-
-        pub nth-later : (k : ℕ) → (l ≡ 0 → ⊥) → (k ≡ 0 → ⊥) → get_or (list_left e) k [] ≡ get_or (list_left (e + 1)) (k - 1) []
-        nth-later k n m =
-            let q : k ≡ suc (k - 1) = omega arith in
-            cc (left-new n)
+-- the k-th of a list of words, as it is lent
+pub lent : (ws : List Word) (k : ℕ) (found : Option (Bor Word)) → option_map (λ w. w.now) found ≡ slice_get ws k
+    → MatchOption found (get_or ws k [] ≡ []) (λ w. w.now ≡ get_or ws k [])
+lent ws k None e = sym (unwrap_or-slice_get ws k []) ∙ sym (ap (λ (o : Option Word). unwrap_or o []) e)
+lent ws k (Some w) e = ap (λ (o : Option Word). unwrap_or o []) e ∙ unwrap_or-slice_get ws k []

@@ -7,12 +7,12 @@
 // The functions are slow and plain: each is proved equal to a definition, so that it can be run.
 #![tactic(auto)]
 
-ghost use Rattle.std.specs.Prelude.{◌≡◌, [], ◌≤◌, length, get_or};
+ghost use Rattle.std.specs.Prelude.{◌≡◌, [], length, get_or, MatchOption};
 ghost use Rattle.palindromes.specs.Place.{first_place};
 ghost use Rattle.palindromes.specs.Record.{palindromes};
 ghost use Rattle.palindromes.specs.Record.{count as Record·count};
 ghost use Rattle.mismatch.specs.Rule.{rule_of};
-ghost use Rattle.reference_listing.specs.Listed.{new_at_end, part};
+ghost use Rattle.reference_listing.specs.Listed.{new_at_end};
 
 use reference_ends::longest_suffix;
 use reference_places::{first_place, stands};
@@ -23,72 +23,49 @@ pub fn new_at_end(rule: &[u8], w: &[u8]) -> usize
 {
     let n = w.len();
     let l = longest_suffix(rule, w);
-    if l == 0 {
-        return 0;
+    if l == 0 || stands(&w[n - l..], &w[..n - 1]) {
+        0
+    } else {
+        l
     }
-    if stands(&w[n - l..], &w[..n - 1]) {
-        return 0;
-    }
-    l
+}
+
+// That palindrome, empty where there is none.
+pub fn new_palindrome<'a>(rule: &[u8], w: &'a [u8]) -> &'a [u8]
+    ensures { result.now ≡ new_at_end (rule_of rule.now) w.now }
+{
+    &w[w.len() - new_at_end(rule, w)..]
 }
 
 // The number of distinct palindromes.
 pub fn count(rule: &[u8], s: &[u8]) -> usize
     ensures { result ≡ Record·count (rule_of rule.now) s.now }
 {
-    let mut total = 0;
-    let mut e = 0;
-    while e < s.len() {
-        e += 1;
-        total += (0 < new_at_end(rule, &s[..e])) as usize;
-    }
-    total
+    (1..=s.len())
+        .filter(|e| new_at_end(rule, &s[..*e]) != 0)
+        .count()
 }
 
-// A stretch of a record: the letters from start up to, not including, end.
-#[derive(Clone, Copy)]
-struct Stretch {
-    start: usize,
-    end: usize,
-}
-
-// Where the k-th palindrome of the list ends first, an empty stretch where the list is shorter.
-fn nth(rule: &[u8], s: &[u8], k: usize) -> Stretch
-    ensures start_le_end { (result.start ≤ result.end) × (result.end ≤ length s.now) }
-    ensures end_value { part s.now result.start result.end ≡ get_or (palindromes (rule_of rule.now) s.now) k [] }
+// The k-th palindrome of the list, where the list is not shorter.
+fn nth<'a>(rule: &[u8], s: &'a [u8], k: usize) -> Option<&'a [u8]>
+    ensures { MatchOption result (get_or (palindromes (rule_of rule.now) s.now) k [] ≡ []) (λ w. w.now ≡ get_or (palindromes (rule_of rule.now) s.now) k []) }
 {
-    let mut left = k;
-    let mut e = 0;
-    while e < s.len() {
-        e += 1;
-        let l = new_at_end(rule, &s[..e]);
-        if l != 0 {
-            if left == 0 {
-                return Stretch {
-                    start: e - l,
-                    end: e,
-                };
-            }
-            left -= 1;
-        }
-    }
-    Stretch { start: 0, end: 0 }
+    (1..=s.len())
+        .map(|e| new_palindrome(rule, &s[..e]))
+        .filter(|w| !w.is_empty())
+        .nth(k)
 }
 
 // The length of the k-th palindrome of the list, 0 where the list is shorter.
 pub fn nth_length(rule: &[u8], s: &[u8], k: usize) -> usize
     ensures { result ≡ length (get_or (palindromes (rule_of rule.now) s.now) k []) }
 {
-    let w = nth(rule, s, k);
-    w.end - w.start
+    nth(rule, s, k).map_or(0, |w| w.len())
 }
 
 // The first place of the k-th palindrome of the list, 0 where the list is shorter.
 pub fn nth_place(rule: &[u8], s: &[u8], k: usize) -> usize
     ensures { result ≡ first_place (get_or (palindromes (rule_of rule.now) s.now) k []) s.now }
 {
-    let w = nth(rule, s, k);
-    let start = w.start;
-    let end = w.end;
-    first_place(&s[start..end], s)
+    nth(rule, s, k).map_or(0, |w| first_place(w, s))
 }

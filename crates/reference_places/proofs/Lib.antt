@@ -1,3 +1,2 @@
 -- the laws that the loops go by: what one turn takes off a definition
-pub mod Numbers
 pub mod Pieces

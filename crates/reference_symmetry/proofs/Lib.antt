@@ -1,3 +1,3 @@
--- what one turn of a loop takes off a definition, for the reference functions that have one; and palindromes by their length
+-- what one turn of a loop takes off a definition, for the reference functions that have one; and the numbers of a range as a list
 pub mod Turns
-pub mod Palindromes
+pub mod Ranges

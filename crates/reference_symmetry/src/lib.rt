@@ -16,6 +16,7 @@ pub fn first_mismatch(rule: &[u8], w: &[u8]) -> usize
 }
 
 // Whether w equals its reversal, each letter replaced by its partner.
+#[tactic(auto, unfolding(palindromes::specs::Palindrome::is_symmetric))]
 pub fn is_symmetric(rule: &[u8], w: &[u8]) -> bool
     ensures { result ≡ is_symmetric (rule_of rule.now) w.now }
 {
@@ -26,8 +27,5 @@ pub fn is_symmetric(rule: &[u8], w: &[u8]) -> bool
 pub fn is_palindrome(rule: &[u8], w: &[u8]) -> bool
     ensures { result ≡ is_palindrome (rule_of rule.now) w.now }
 {
-    if w.len() == 0 {
-        return false;
-    }
-    is_symmetric(rule, w)
+    !w.is_empty() && is_symmetric(rule, w)
 }

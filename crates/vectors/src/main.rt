@@ -19,37 +19,37 @@ fn main(rt: HostRuntime) -> io::Result<()> {
 }
 
 fn figure_1_of_001(rt: &impl Print) -> io::Result<()> {
-    show::title(rt, b"001 figure 1")?;
-    show::count(rt, b"AACGCAA")?;
-    show::list(rt, b"", b"AACGCAA")?;
-    show::link(rt, b"ACGCA")
+    println!(rt; "001 figure 1")?;
+    show::count(rt, "AACGCAA")?;
+    show::list(rt, &show::PLAIN, "AACGCAA")?;
+    show::link(rt, "ACGCA")
 }
 
 fn example_3_2_of_001(rt: &impl Print) -> io::Result<()> {
-    show::title(rt, b"001 example 3.2")?;
-    show::right_end(rt, b"AACAACAACA")?;
-    show::link(rt, b"ACAACAACA")?;
-    show::stands(rt, b"CAC", b"AACAACAACA")?;
-    show::stands(rt, b"CAC", b"AACAACAACAC")
+    println!(rt; "001 example 3.2")?;
+    show::right_end(rt, "AACAACAACA")?;
+    show::link(rt, "ACAACAACA")?;
+    show::stands(rt, "CAC", "AACAACAACA")?;
+    show::stands(rt, "CAC", "AACAACAACAC")
 }
 
 fn figure_1_of_003(rt: &impl Print) -> io::Result<()> {
-    show::title(rt, b"003 figure 1")?;
-    show::count(rt, b"AAACACACACCACC")?;
-    show::list(rt, b"", b"AAACACACACCACC")?;
-    show::longest(rt, b"AAACACACACCACC")?;
-    show::minimal_unique(rt, b"AAACACACACCACC")
+    println!(rt; "003 figure 1")?;
+    show::count(rt, "AAACACACACCACC")?;
+    show::list(rt, &show::PLAIN, "AAACACACACCACC")?;
+    show::longest(rt, "AAACACACACCACC")?;
+    show::minimal_unique(rt, "AAACACACACCACC")
 }
 
 fn section_2_2_of_004(rt: &impl Print) -> io::Result<()> {
-    show::title(rt, b"004 section 2.2")?;
-    show::right_ends(rt, b"AACAGTGA")
+    println!(rt; "004 section 2.2")?;
+    show::right_ends(rt, "AACAGTGA")
 }
 
 fn inverted_of_004(rt: &impl Print) -> io::Result<()> {
-    show::title(rt, b"004 inverted")?;
+    println!(rt; "004 inverted")?;
     // the reading of inverted records is 1
     let rule = partners::table(1);
-    show::list(rt, &rule, b"ACCTGCAGGT")?;
-    show::list(rt, &rule, b"AGTCT")
+    show::list(rt, &rule, "ACCTGCAGGT")?;
+    show::list(rt, &rule, "AGTCT")
 }

@@ -1,6 +1,0 @@
--- The measure of `vectors::show::minimal_unique`: what is left to go through. Assumes nothing.
-use Rattle.std.proofs.Common.{◌-◌}
-use Rattle.vectors.proofs.show.minimal_unique.Given as goal
-
-abbrev pub decreases-loop-k : goal.decreases-loop-k
-decreases-loop-k g l = l.n - l.k
