@@ -20,10 +20,8 @@ pub fn rows_at_ends(b: &[u8], ends: &mut [u16])
     let f = frame_of(b);
     let partners = of_letters(f.reading);
     let mut row = Row::EMPTY;
-    let mut k = 0;
-    while k < f.n {
+    for (k, end) in ends[..f.n].iter_mut().enumerate() {
         row = replay::next(b, f, &partners, k, row);
-        ends[k] = row as u16;
-        k += 1;
+        *end = row as u16;
     }
 }
