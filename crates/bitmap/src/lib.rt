@@ -15,13 +15,10 @@ pub fn mark(bits: &mut [u8], from: usize, i: usize) -> bool
         return false;
     }
     let byte = (i - from) / 8;
-    if bits.len() <= byte {
+    let bit = (i - from) % 8;
+    if byte >= bits.len() || (bits[byte] >> bit) % 2 != 0 {
         return false;
     }
-    let bit = ((i - from) % 8) as u8;
-    if (bits[byte] >> bit) % 2 != 0 {
-        return false;
-    }
-    bits[byte] = bits[byte] | 1 << bit;
+    bits[byte] |= 1 << bit;
     true
 }
