@@ -1,4 +1,5 @@
-// The rows at the right ends of a record, from one reading of the letters that both sums of all places share.
+// The rows at the right ends of a record, from one reading of the letters that both sums of all
+// places share.
 #![tactic(auto)]
 
 ghost use Rattle.std.specs.Prelude.{◌≤◌, length};

@@ -1,5 +1,5 @@
-// The list of a good store's palindromes as BED lines, each at its first place, ordered by end. Of each
-// palindrome that has stood it keeps one bit.
+// The list of a good store's palindromes as BED lines, each at its first place, ordered by end. Of
+// each palindrome that has stood it keeps one bit.
 #![tactic(auto)]
 
 mod meeting;
@@ -30,8 +30,8 @@ pub fn scratch_size(b: &[u8]) -> usize
     header::size(b).div_ceil(8)
 }
 
-// Adds up the lengths of the lines whose palindromes have their ranks in the window from `from` on, with
-// as many bytes of marks as the longest line has: 344 ranks a window.
+// Adds up the lengths of the lines whose palindromes have their ranks in the window from `from` on.
+// It has 344 ranks, a bit each in as many bytes as the longest line has.
 fn window_length(b: &[u8], name: &[u8], from: usize) -> usize
     requires good { Good b.now }
     requires name_value { is_identifier name.now ≡ true }
@@ -65,8 +65,8 @@ pub fn listing_length(b: &[u8], name: &[u8]) -> usize
     total
 }
 
-// Writes the lines at the front of the buffer, with marks that begin empty and have a bit for every
-// rank, and answers the place behind them.
+// Writes the lines at the front of the buffer, with marks that begin empty and have a bit for
+// every rank, and answers the place behind them.
 fn put_lines(b: &[u8], name: &[u8], marks: &mut [u8], out: &mut [u8]) -> usize
     requires good { Good b.now }
     requires name_value { is_identifier name.now ≡ true }
@@ -90,8 +90,8 @@ fn put_lines(b: &[u8], name: &[u8], marks: &mut [u8], out: &mut [u8]) -> usize
     at
 }
 
-// Writes the list at the front of `out` and answers how many bytes it has. Of the scratch, a bit for
-// each letter serves as marks, and these bytes are left nought.
+// Writes the list at the front of `out` and answers how many bytes it has. Of the scratch, a bit
+// for each letter serves as marks, and these bytes are left nought.
 pub fn list(b: &[u8], name: &[u8], scratch: &mut [u8], out: &mut [u8]) -> usize
     requires good { Good b.now }
     requires name_value { is_identifier name.now ≡ true }

@@ -1,5 +1,6 @@
-// What the palindromes that end the letters at a right end come to, one link after the other: whether a given one is among them,
-// and how many there are. The number of a row follows from that of its link, which was met before it.
+// What the palindromes that end the letters at a right end come to, one link after the other:
+// whether a given one is among them, and how many there are. The number of a row follows from that
+// of its link, which was met before it.
 #![tactic(auto)]
 
 ghost use Rattle.std.specs.Prelude.{◌≡◌, true, ◌≤◌, ◌<◌, length, get_or};
@@ -17,8 +18,8 @@ use store::{header, rows};
 use walk::frame::frame_of;
 use walk::replay;
 
-// Marks the wanted row with 1 and any other as its link is marked, so that the mark tells whether the wanted row's palindrome
-// ends the row's own; answers it, and 0 for a root.
+// Marks the wanted row with 1 and any other as its link is marked, so that the mark tells whether
+// the wanted row's palindrome ends the row's own; answers it, and 0 for a root.
 fn mark(b: &[u8], marks: &mut [u8], wanted: usize, row: usize) -> usize
     requires good { Good b.now }
     requires wanted_value { (used_in b.now wanted ≡ true) × (2 ≤ wanted) }
@@ -55,7 +56,8 @@ pub fn frequency(b: &[u8], row: usize) -> usize
     total
 }
 
-// How many palindromes end a row's own: one more than end its link's. Keeps the number, and answers it.
+// How many palindromes end a row's own: one more than end its link's. Keeps the number, and
+// answers it.
 fn chain_length(b: &[u8], chains: &mut [u16], row: usize) -> usize
     requires good { Good b.now }
     requires row_value { (used_in b.now row ≡ true) × (length chains.old ≡ 1026) }

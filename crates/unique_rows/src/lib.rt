@@ -1,6 +1,7 @@
-// Which palindromes stand once only, from one reading of the letters. A row is marked where it is met: once, and again. What ends a
-// palindrome begins it too, so where a row is met first its link stands again; that is all that one letter more can change, since
-// whatever ends the link or a palindrome met before stood twice already.
+// Which palindromes stand once only, from one reading of the letters. A row is marked where it is
+// met: once, and again. What ends a palindrome begins it too, so where a row is met first its link
+// stands again; that is all that one letter more can change, since whatever ends the link or a
+// palindrome met before stood twice already.
 #![tactic(auto)]
 
 ghost use Rattle.std.specs.Prelude.{◌≡◌, true, ◌≤◌, length, replicate};
@@ -30,8 +31,9 @@ fn meet(b: &[u8], marks: &mut [u8], row: usize) -> bool
     true
 }
 
-// Marks each row as often as its palindrome stands, 2 for any more and for the roots, with marks that begin empty, and puts at
-// each right end the row that is first met there.
+// Marks each row as often as its palindrome stands, 2 for any more and for the roots, with marks
+// that begin empty, and puts at each right end the row that is first met there, and the imaginary
+// row where none is.
 pub fn mark_rows(b: &[u8], firsts: &mut [u16], marks: &mut [u8])
     requires good { Good b.now }
     requires b_in_bounds { size_in b.now ≤ length firsts.old }

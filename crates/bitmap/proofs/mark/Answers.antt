@@ -24,13 +24,15 @@ returns-then-byte-bits-clause-first c =
     elim c.then-byte-bits.branch [
       | then-byte-bits-via-then-byte-bits w ↦ outside a.from a.i a.bits.now (window-not a.from a.i a.bits.now λ h k. omega arith)
       | then-byte-bits-via-else-byte-bits+then-bits-byte-ne0 w ↦
-          inside a.from a.i a.bits.now true (window-is a.from a.i a.bits.now (omega arith) (omega arith)) (bit_is a.bits.now (a.i - a.from) w.if-bits-byte-ne0.true)
+          inside a.from a.i a.bits.now true (window-is a.from a.i a.bits.now (omega arith) (omega arith))
+          (bit_is a.bits.now (a.i - a.from) w.if-bits-byte-ne0.true)
     ]
 
 pub returns-clause-first : goal.returns-clause-first
 returns-clause-first c =
     let a = c.args in
-    inside a.from a.i a.bits.now false (window-is a.from a.i a.bits.now (omega arith) (omega arith)) (bit_not a.bits.now (a.i - a.from) c.if-bits-byte-ne0.false)
+    inside a.from a.i a.bits.now false (window-is a.from a.i a.bits.now (omega arith) (omega arith))
+    (bit_not a.bits.now (a.i - a.from) c.if-bits-byte-ne0.false)
 
 pub returns-clause-marked : goal.returns-clause-marked
 returns-clause-marked c = bit-given c.args.bits.now (c.args.i - c.args.from)

@@ -14,8 +14,8 @@ use Rattle.listing.proofs.put_lines.Goals as goal
 use Rattle.listing.proofs.put_lines.Goals.{then-meet, else-meet}
 
 -- where the palindrome that ends the letters read is new its line comes next
-comes : {b : Word} (g : Good b) {k row n : ℕ} → k < size_in b → (name : Word) → new_at b k ≡ true → Holds b (k + 1) row → n ≡ length (spelling_of (node_in b row))
-    → listed b name (k + 1) ≡ listed b name k ++ bed_line name (k + 1 - n) (k + 1)
+comes : {b : Word} (g : Good b) {k row n : ℕ} → k < size_in b → (name : Word) → new_at b k ≡ true → Holds b (k + 1) row
+    → n ≡ length (spelling_of (node_in b row)) → listed b name (k + 1) ≡ listed b name k ++ bed_line name (k + 1 - n) (k + 1)
 comes {b} g {k} l name e h i = listed-new g name k l e ∙ ap (λ (w : Word). listed b name k ++ w) (sym (line-is h i name))
 
 pub loop-k-init : goal.loop-k-init
@@ -40,7 +40,8 @@ put_line-at-requires-clause-end_in_bounds c =
     let new = sym (met-new g met (omega (arith, c.requires.read_to.1))) ∙ c.if-meet.true in
     let line = bed_line name (i.k + 1 - c.spelling_length.result) (i.k + 1) in
     let listed-on = comes g more name new c.next-row.ensures c.spelling_length.ensures in
-    omega (arith, i.invariant.place, ap length listed-on, length-append (listed c.args.b.now name i.k) line, listed-most g name (i.k + 1) (omega arith), c.requires.name_in_bounds)
+    let most = listed-most g name (i.k + 1) (omega arith) in
+    omega (arith, i.invariant.place, ap length listed-on, length-append (listed c.args.b.now name i.k) line, most, c.requires.name_in_bounds)
 
 pub loop-k-preserved : goal.loop-k-preserved
 loop-k-preserved c =
@@ -55,10 +56,14 @@ loop-k-preserved c =
       | then-meet w ↦
           let line = bed_line name (i.k + 1 - w.spelling_length.result) (i.k + 1) in
           let listed-on = comes g more name (sym is-new ∙ w.if-meet.true) c.next-row.ensures w.spelling_length.ensures in
+          let put = w.put_line-at.ensures in
+          let before = listed b name i.k in
           record {
             reads = met.reads;
-            place = omega (arith, w.at-is, i.invariant.place, w.put_line-at.ensures.behind, ap length listed-on, length-append (listed b name i.k) line);
-            written = w.out-is ∙ written_on c.args.out.now i.out w.put_line-at.new.out (listed b name i.k) line (listed b name (i.k + 1)) i.at i.invariant.written i.invariant.place w.put_line-at.ensures.written listed-on;
+            place = omega (arith, w.at-is, i.invariant.place, put.behind, ap length listed-on, length-append before line);
+            written = w.out-is
+                ∙ written_on c.args.out.now i.out w.put_line-at.new.out before line (listed b name (i.k + 1)) i.at
+                i.invariant.written i.invariant.place put.written listed-on;
             kept = λ v h. met.kept v h ∙ i.invariant.kept v h;
           }
       | else-meet w ↦

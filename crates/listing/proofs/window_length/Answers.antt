@@ -37,9 +37,10 @@ loop-k-preserved c =
       | then-meet w ↦
           let line = w.line_length-total.ensures in
           let is = line-is c.next-row.ensures w.spelling_length.ensures name in
+          let adds = within_new g name met i.total (c.args.from + 344) window-end i.invariant.total-is w.if-meet.true in
           record {
             reads = met.reads;
-            total-is = omega (arith, w.total-is, line.0, ap length is, within_new g name met i.total (c.args.from + 344) window-end i.invariant.total-is w.if-meet.true);
+            total-is = omega (arith, w.total-is, line.0, ap length is, adds);
             small = omega (arith, i.invariant.small, w.total-is, line.1);
           }
       | else-meet w ↦

@@ -1,4 +1,5 @@
--- The row is that of the longest palindrome that ends the letters read, each row met has its mark, and the total is how often the wanted palindrome stands in the letters read.
+-- The row is that of the longest palindrome that ends the letters read, each row met has its mark, and the total is how often the wanted palindrome
+-- stands in the letters read.
 use Rattle.std.proofs.Common.{◌≡◌, take}
 use Rattle.palindromes.specs.Place.{frequency}
 use Rattle.palindromes.specs.Node.{spelling_of}

@@ -22,8 +22,9 @@ bounds-marks-row c = omega (arith, row_below c.requires.good c.args.row c.requir
 pub returns : goal.returns
 returns c =
     let p = c.requires in
-    let below = c.if-row-le-EMPTY.false in
+    let used = p.wanted_value.0 in
+    let high = p.wanted_value.1 in
     elim c.if-row-wanted.branch [
-      | then-row-wanted w ↦ marks-wanted p.good p.wanted_value.0 p.wanted_value.1 (omega arith) w.if-row-wanted.true w.marked-is c.from.ensures
-      | else-row-wanted w ↦ marks-other p.good p.wanted_value.0 p.wanted_value.1 (omega arith) w.if-row-wanted.false w.link_of.ensures.0 w.marked-is c.from.ensures
+      | then-row-wanted w ↦ marks-wanted p.good used high (omega arith) w.if-row-wanted.true w.marked-is c.from.ensures
+      | else-row-wanted w ↦ marks-other p.good used high (omega arith) w.if-row-wanted.false w.link_of.ensures.0 w.marked-is c.from.ensures
     ]

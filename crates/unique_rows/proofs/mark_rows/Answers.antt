@@ -1,5 +1,6 @@
 -- `unique_rows::mark_rows` reads the letters from left to right; what stands behind the right ends is kept. Assumes nothing.
-use Rattle.std.proofs.Common.{◌≡◌, ◌≢◌, true, false, ℕ, ◌+◌, ◌<◌, length, get_or, drop, ◌++◌, sym, ◌∙◌, arith, below_more, length-append, length-take, length-drop, get_or-set_same, get_or-set_other}
+use Rattle.std.proofs.Common.{◌≡◌, ◌≢◌, true, false, ℕ, ◌+◌, ◌<◌, length, get_or, drop, ◌++◌, sym, ◌∙◌, arith, below_more}
+use Rattle.std.proofs.Common.{length-append, length-take, length-drop, get_or-set_same, get_or-set_other}
 use Rattle.std.proofs.Math.ListN.{get_or-append}
 use Rattle.palindromes.specs.Word.{Word}
 use Rattle.store.specs.Layout.{size_in}

@@ -1,4 +1,5 @@
--- The row is that of the longest palindrome that ends the letters read, the marks say how often each stands in them, and each right end so far has the row that is first met there.
+-- The row is that of the longest palindrome that ends the letters read, the marks say how often each stands in them, and each right end so far has
+-- the row that is first met there.
 use Rattle.std.proofs.Common.{◌≡◌, true, false, ℕ, ◌+◌, ◌<◌, get_or}
 use Rattle.palindromes.specs.Word.{Word}
 use Rattle.walk.specs.Replay.{new_at, Holds}

@@ -1,4 +1,5 @@
--- `longest_palindrome::at_end::longest_at` tells the row of the end, and whether its palindrome stands without the end's letter (`once-only` of palindromes). Assumes nothing.
+-- `longest_palindrome::at_end::longest_at` tells the row of the end, and whether its palindrome stands without the end's letter (`once-only` of
+-- palindromes). Assumes nothing.
 use Rattle.std.proofs.Common.{not, length, sym, ap, ◌∙◌, arith}
 use Rattle.palindromes.proofs.Answers.{once-only}
 use Rattle.palindromes.proofs.Readings.{rule-inverse}

@@ -19,9 +19,10 @@ loop-k-preserved c =
     let b = c.args.b.now in
     let i = c.loop-k in
     let more : i.k < length (letters_in b) = omega (arith, letters-length c.requires.sized) in
+    let here = c.spelling_length-here.ensures ∙ ending-length c.next-row.ensures in
     record {
       ends = c.next-row.ensures;
-      best = best-next (rule_of b) (letters_in b) i.k i.length i.place c.spelling_length-here.result more i.invariant.best (c.spelling_length-here.ensures ∙ ending-length c.next-row.ensures)
+      best = best-next (rule_of b) (letters_in b) i.k i.length i.place c.spelling_length-here.result more i.invariant.best here
           c.if-length-here.length c.if-length-here.place
           (
           elim c.if-length-here.branch [
