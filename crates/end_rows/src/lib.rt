@@ -1,4 +1,5 @@
-// The rows at the right ends of a record, from one reading of the letters that both sums of all places share.
+// The rows at the right ends of a record, from one reading of the letters that both sums of all
+// places share.
 #![tactic(auto)]
 
 ghost use Rattle.std.specs.Prelude.{◌≤◌, length};
@@ -20,10 +21,8 @@ pub fn rows_at_ends(b: &[u8], ends: &mut [u16])
     let f = frame_of(b);
     let partners = of_letters(f.reading);
     let mut row = Row::EMPTY;
-    let mut k = 0;
-    while k < f.n {
+    for (k, end) in ends[..f.n].iter_mut().enumerate() {
         row = replay::next(b, f, &partners, k, row);
-        ends[k] = row as u16;
-        k += 1;
+        *end = row as u16;
     }
 }

@@ -1,5 +1,5 @@
 -- What the contracts of src/ say of a walk over the letters that keeps a bit for each row in use whose rank is in a window: the bit is set once the row's palindrome has stood in what is read.
-use Rattle.std.specs.Prelude.{ℕ, ◌+◌, ◌-◌, ◌≤◌, ◌≡◌, Bool, true, ◌&&◌, length, take}
+use Rattle.std.specs.Prelude.{ℕ, ◌+◌, ◌-◌, ◌≤◌, ◌<◌, ◌≡◌, Bool, true, ◌&&◌, length, take}
 use Rattle.std.proofs.lemmas.List.Edits.{sets}
 use Rattle.palindromes.specs.Word.{Word}
 use Rattle.palindromes.specs.Place.{stands}
@@ -24,3 +24,8 @@ pub record ReadOn (b : Word) (from k : ℕ) (old : Word) (row : ℕ) (first : Bo
   pub reads : ReadTo b from (k + 1) row marks
   pub first-is : first ≡ (new_at b k && in_window from (rank_in b row) old)
   pub kept : SameBehind (scratch_size (size_in b)) old marks
+
+-- with one letter more, at whose end the row is met, the walk goes on
+abbrev pub Meets : (b : Word) (from row : ℕ) (old : Word) (first : Bool) (marks : Word) → Type 0
+Meets b from row old first marks =
+    (k last : ℕ) → k < size_in b → ReadTo b from k last old → Holds b (k + 1) row → ReadOn b from k old row first marks

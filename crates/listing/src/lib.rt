@@ -1,5 +1,5 @@
-// The list of a good store's palindromes as BED lines, each at its first place, ordered by end. Of each
-// palindrome that has stood it keeps one bit.
+// The list of a good store's palindromes as BED lines, each at its first place, ordered by end. Of
+// each palindrome that has stood it keeps one bit.
 #![tactic(auto)]
 
 mod meeting;
@@ -20,47 +20,36 @@ use spelling::spelling_length;
 use store::rows::Row;
 use store::{bytes, header};
 use walk::frame::frame_of;
+use walk::replay;
 
 // How many bytes of scratch the list needs: a bit for each letter, in whole bytes.
 pub fn scratch_size(b: &[u8]) -> usize
     requires { Good b.now }
     ensures { result ≡ scratch_size (length (letters_in b.now)) }
 {
-    (header::size(b) + 7) / 8
+    header::size(b).div_ceil(8)
 }
 
-// Adds up the lengths of the lines whose palindromes have their ranks in the window, with marks that
-// begin empty.
-fn add_lines(b: &[u8], name: &[u8], from: usize, marks: &mut [u8]) -> usize
-    requires good { Good b.now }
-    requires name_value { is_identifier name.now ≡ true }
-    requires read_to { ReadTo b.now from 0 1 marks.old }
-    ensures { result + length_below b.now name.now from (size_in b.now) ≡ length_below b.now name.now (from + 8 * length marks.old) (size_in b.now) }
-{
-    let f = frame_of(b);
-    let partners = of_letters(f.reading);
-    let mut row = Row::EMPTY;
-    let mut total = 0;
-    let mut k = 0;
-    while k < f.n {
-        let met = meet(b, f, &partners, k, row, from, marks);
-        row = met.row;
-        k += 1;
-        if met.first {
-            total += line_length(name, k - spelling_length(b, row), k);
-        }
-    }
-    total
-}
-
-// The same with marks of its own, as many bytes as the longest line has: 344 ranks a window.
+// Adds up the lengths of the lines whose palindromes have their ranks in the window from `from` on.
+// It has 344 ranks, a bit each in as many bytes as the longest line has.
 fn window_length(b: &[u8], name: &[u8], from: usize) -> usize
     requires good { Good b.now }
     requires name_value { is_identifier name.now ≡ true }
     ensures { result + length_below b.now name.now from (size_in b.now) ≡ length_below b.now name.now (from + 344) (size_in b.now) }
 {
+    let f = frame_of(b);
+    let partners = of_letters(f.reading);
     let mut marks = [0u8; 43];
-    add_lines(b, name, from, &mut marks)
+    let mut row = Row::EMPTY;
+    let mut total = 0;
+    for k in 0..f.n {
+        row = replay::next(b, f, &partners, k, row);
+        if meet(b, &mut marks, from, row) {
+            let end = k + 1;
+            total += line_length(name, end - spelling_length(b, row), end);
+        }
+    }
+    total
 }
 
 // How many bytes the list has: window by window, until every rank in use was in one.
@@ -69,18 +58,15 @@ pub fn listing_length(b: &[u8], name: &[u8]) -> usize
     requires name_value { is_identifier name.now ≡ true }
     ensures { result ≡ length (listing_in b.now name.now) }
 {
-    let count = header::count(b);
     let mut total = 0;
-    let mut from = 0;
-    while from < count {
+    for from in (0..header::count(b)).step_by(344) {
         total += window_length(b, name, from);
-        from += 344;
     }
     total
 }
 
-// Writes the lines at the front of the buffer, with marks that begin empty and have a bit for every
-// rank, and answers the place behind them.
+// Writes the lines at the front of the buffer, with marks that begin empty and have a bit for
+// every rank, and answers the place behind them.
 fn put_lines(b: &[u8], name: &[u8], marks: &mut [u8], out: &mut [u8]) -> usize
     requires good { Good b.now }
     requires name_value { is_identifier name.now ≡ true }
@@ -94,20 +80,18 @@ fn put_lines(b: &[u8], name: &[u8], marks: &mut [u8], out: &mut [u8]) -> usize
     let partners = of_letters(f.reading);
     let mut row = Row::EMPTY;
     let mut at = 0;
-    let mut k = 0;
-    while k < f.n {
-        let met = meet(b, f, &partners, k, row, 0, marks);
-        row = met.row;
-        k += 1;
-        if met.first {
-            at = put_line(out, at, name, k - spelling_length(b, row), k);
+    for k in 0..f.n {
+        row = replay::next(b, f, &partners, k, row);
+        if meet(b, marks, 0, row) {
+            let end = k + 1;
+            at = put_line(out, at, name, end - spelling_length(b, row), end);
         }
     }
     at
 }
 
-// Writes the list at the front of `out` and answers how many bytes it has. Of the scratch, a bit for
-// each letter serves as marks, and these bytes are left nought.
+// Writes the list at the front of `out` and answers how many bytes it has. Of the scratch, a bit
+// for each letter serves as marks, and these bytes are left nought.
 pub fn list(b: &[u8], name: &[u8], scratch: &mut [u8], out: &mut [u8]) -> usize
     requires good { Good b.now }
     requires name_value { is_identifier name.now ≡ true }

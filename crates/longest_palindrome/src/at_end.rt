@@ -20,8 +20,8 @@ pub struct AtEnd {
     pub once: bool,
 }
 
-// Asks a side: the longest there stands once only exactly if it does not stand without the side's own letter. The empty
-// string stands everywhere.
+// Asks a side: the longest there stands once only exactly if it does not stand without the side's
+// own letter. The empty string stands everywhere.
 pub fn longest_at(b: &[u8], side: Side, reach: Reach) -> AtEnd
     requires good { Good b.now }
     requires b_nonzero { 0 < size_in b.now }

@@ -29,15 +29,13 @@ pub fn longest(b: &[u8]) -> LongestAnswer
     let mut row = Row::EMPTY;
     let mut length = 0;
     let mut place = 0;
-    let mut k = 0;
-    while k < f.n {
+    for k in 0..f.n {
         row = replay::next(b, f, &partners, k, row);
         let here = spelling_length(b, row);
         if length < here {
             length = here;
             place = k + 1 - here;
         }
-        k += 1;
     }
     LongestAnswer { length, place }
 }

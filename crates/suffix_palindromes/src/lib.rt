@@ -1,8 +1,9 @@
-// What the palindromes that end the letters at a right end come to, one link after the other: whether a given one is among them,
-// and how many there are. The number of a row follows from that of its link, which was met before it.
+// What the palindromes that end the letters at a right end come to, one link after the other:
+// whether a given one is among them, and how many there are. The number of a row follows from that
+// of its link, which was met before it.
 #![tactic(auto)]
 
-ghost use Rattle.std.specs.Prelude.{◌≡◌, true, ◌≤◌, ◌<◌, length, get_or, replicate};
+ghost use Rattle.std.specs.Prelude.{◌≡◌, true, ◌≤◌, ◌<◌, length, get_or};
 ghost use Rattle.palindromes.specs.Place.{frequency};
 ghost use Rattle.palindromes.specs.Occurrences.{occurrences_by_end};
 ghost use Rattle.palindromes.specs.Node.{spelling_of};
@@ -13,12 +14,12 @@ ghost use Rattle.suffix_palindromes.specs.Handed.{ending_with, chain_length, Han
 
 use partners::of_letters;
 use store::rows::Row;
-use store::{cells, header, rows};
+use store::{header, rows};
 use walk::frame::frame_of;
 use walk::replay;
 
-// Marks the wanted row with 1 and any other as its link is marked, so that the mark tells whether the wanted row's palindrome
-// ends the row's own; answers it, and 0 for a root.
+// Marks the wanted row with 1 and any other as its link is marked, so that the mark tells whether
+// the wanted row's palindrome ends the row's own; answers it, and 0 for a root.
 fn mark(b: &[u8], marks: &mut [u8], wanted: usize, row: usize) -> usize
     requires good { Good b.now }
     requires wanted_value { (used_in b.now wanted ≡ true) × (2 ≤ wanted) }
@@ -34,40 +35,29 @@ fn mark(b: &[u8], marks: &mut [u8], wanted: usize, row: usize) -> usize
         marks[rows::link_of(b, row)]
     };
     marks[row] = marked;
-    cells::wide(marked)
+    usize::from(marked)
 }
 
-// Counts the right ends at which the wanted row's palindrome stands, with marks that begin empty.
-fn count_ends(b: &[u8], wanted: usize, marks: &mut [u8]) -> usize
-    requires good { Good b.now }
-    requires wanted_value { (used_in b.now wanted ≡ true) × (2 ≤ wanted) }
-    requires marks_value { marks.old ≡ replicate 1026 0 }
-    ensures { result ≡ frequency (spelling_of (node_in b.now wanted)) (letters_in b.now) }
-{
-    let f = frame_of(b);
-    let partners = of_letters(f.reading);
-    let mut row = Row::EMPTY;
-    let mut total = 0;
-    let mut k = 0;
-    while k < f.n {
-        row = replay::next(b, f, &partners, k, row);
-        total += mark(b, marks, wanted, row);
-        k += 1;
-    }
-    total
-}
-
-// How often a row's palindrome stands.
+// How often a row's palindrome stands: the marks of the rows at the right ends added up.
 pub fn frequency(b: &[u8], row: usize) -> usize
     requires good { Good b.now }
     requires row_value { (used_in b.now row ≡ true) × (2 ≤ row) }
     ensures { result ≡ frequency (spelling_of (node_in b.now row)) (letters_in b.now) }
 {
+    let f = frame_of(b);
+    let partners = of_letters(f.reading);
     let mut marks = [0u8; 1026];
-    count_ends(b, row, &mut marks)
+    let mut last = Row::EMPTY;
+    let mut total = 0;
+    for k in 0..f.n {
+        last = replay::next(b, f, &partners, k, last);
+        total += mark(b, &mut marks, row, last);
+    }
+    total
 }
 
-// How many palindromes end a row's own: one more than end its link's. Keeps the number, and answers it.
+// How many palindromes end a row's own: one more than end its link's. Keeps the number, and
+// answers it.
 fn chain_length(b: &[u8], chains: &mut [u16], row: usize) -> usize
     requires good { Good b.now }
     requires row_value { (used_in b.now row ≡ true) × (length chains.old ≡ 1026) }
@@ -79,24 +69,7 @@ fn chain_length(b: &[u8], chains: &mut [u16], row: usize) -> usize
     }
     let more = chains[rows::link_of(b, row)] + 1;
     chains[row] = more;
-    more as usize
-}
-
-// Adds up the palindromes that end at each right end, with numbers of chains that begin empty.
-fn add_chains(b: &[u8], ends: &[u16], chains: &mut [u16]) -> usize
-    requires good { Good b.now }
-    requires end_rows { EndRows b.now ends.now }
-    requires chains_value { chains.old ≡ replicate 1026 0 }
-    ensures { result ≡ occurrences_by_end (rule_of b.now) (letters_in b.now) }
-{
-    let n = header::size(b);
-    let mut total = 0;
-    let mut k = 0;
-    while k < n {
-        total += chain_length(b, chains, ends[k] as usize);
-        k += 1;
-    }
-    total
+    usize::from(more)
 }
 
 // How many palindromes stand, counted at their right ends.
@@ -106,5 +79,9 @@ pub fn occurrences_by_end(b: &[u8], ends: &[u16]) -> usize
     ensures { result ≡ occurrences_by_end (rule_of b.now) (letters_in b.now) }
 {
     let mut chains = [0u16; 1026];
-    add_chains(b, ends, &mut chains)
+    let mut total = 0;
+    for end in &ends[..header::size(b)] {
+        total += chain_length(b, &mut chains, usize::from(*end));
+    }
+    total
 }

@@ -1,5 +1,5 @@
 -- What the contracts of src/lib.rt say of the marks: how often each row's palindrome stands in the letters read so far, as far as 2.
-use Rattle.std.specs.Prelude.{ℕ, ◌+◌, ◌≤◌, ◌<◌, ◌≡◌, true, false, ◌⊎◌, length, get_or, take}
+use Rattle.std.specs.Prelude.{ℕ, ◌+◌, ◌≤◌, ◌<◌, ◌≡◌, Bool, true, ◌⊎◌, length, get_or, take}
 use Rattle.palindromes.specs.Word.{Word}
 use Rattle.palindromes.specs.Place.{frequency}
 use Rattle.palindromes.specs.Node.{spelt}
@@ -18,8 +18,7 @@ pub record Marks (b : Word) (k : ℕ) (marks : Word) : Type 0 where
   pub each : (r : ℕ) (w : Word) → used_in b r ≡ true → 2 ≤ r → node_in b r ≡ spelt w
       → StandsFor (get_or marks r 0) (frequency w (take k (letters_in b)))
 
--- with one letter more, at whose right end the row is met, the marks follow; the answer is that row where its palindrome is new, and else a root's
-abbrev pub Meets : (b : Word) (row : ℕ) (old new : Word) (answer : ℕ) → Type 0
+-- with one letter more, at whose right end the row is met, the marks follow; the answer is whether its palindrome is new there
+abbrev pub Meets : (b : Word) (row : ℕ) (old new : Word) (answer : Bool) → Type 0
 Meets b row old new answer =
-    (k : ℕ) → k < size_in b → Holds b (k + 1) row → Marks b k old
-    → Marks b (k + 1) new × (new_at b k ≡ true → answer ≡ row) × (new_at b k ≡ false → answer < 2)
+    (k : ℕ) → k < size_in b → Holds b (k + 1) row → Marks b k old → Marks b (k + 1) new × (answer ≡ new_at b k)

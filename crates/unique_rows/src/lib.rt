@@ -1,6 +1,7 @@
-// Which palindromes stand once only, from one reading of the letters. A row is marked where it is met: once, and again. What ends a
-// palindrome begins it too, so where a row is met first its link stands again; that is all that one letter more can change, since
-// whatever ends the link or a palindrome met before stood twice already.
+// Which palindromes stand once only, from one reading of the letters. A row is marked where it is
+// met: once, and again. What ends a palindrome begins it too, so where a row is met first its link
+// stands again; that is all that one letter more can change, since whatever ends the link or a
+// palindrome met before stood twice already.
 #![tactic(auto)]
 
 ghost use Rattle.std.specs.Prelude.{◌≡◌, true, ◌≤◌, length, replicate};
@@ -15,23 +16,24 @@ use store::rows::Row;
 use walk::frame::frame_of;
 use walk::replay;
 
-// Marks a row that is met at a right end, and answers it where it is new there, and the imaginary row where it is not.
-fn meet(b: &[u8], marks: &mut [u8], row: usize) -> usize
+// Marks a row that is met at a right end, and answers whether its palindrome is new there.
+fn meet(b: &[u8], marks: &mut [u8], row: usize) -> bool
     requires good { Good b.now }
     requires row_value { (used_in b.now row ≡ true) × (length marks.old ≡ 1026) }
     ensures { Meets b.now row marks.old marks.new result }
 {
     if marks[row] != 0 {
         marks[row] = 2;
-        return Row::IMAGINARY;
+        return false;
     }
     marks[rows::link_of(b, row)] = 2;
     marks[row] = 1;
-    row
+    true
 }
 
-// Marks each row as often as its palindrome stands, 2 for any more and for the roots, with marks that begin empty, and puts at
-// each right end the row that is first met there.
+// Marks each row as often as its palindrome stands, 2 for any more and for the roots, with marks
+// that begin empty, and puts at each right end the row that is first met there, and the imaginary
+// row where none is.
 pub fn mark_rows(b: &[u8], firsts: &mut [u16], marks: &mut [u8])
     requires good { Good b.now }
     requires b_in_bounds { size_in b.now ≤ length firsts.old }
@@ -44,10 +46,13 @@ pub fn mark_rows(b: &[u8], firsts: &mut [u16], marks: &mut [u8])
     marks[Row::IMAGINARY] = 2;
     marks[Row::EMPTY] = 2;
     let mut row = Row::EMPTY;
-    let mut k = 0;
-    while k < f.n {
+    for (k, first) in firsts[..f.n].iter_mut().enumerate() {
         row = replay::next(b, f, &partners, k, row);
-        firsts[k] = meet(b, marks, row) as u16;
-        k += 1;
+        let new = if meet(b, marks, row) {
+            row
+        } else {
+            Row::IMAGINARY
+        };
+        *first = new as u16;
     }
 }
