@@ -26,15 +26,16 @@ fn centre(n: usize) -> usize
     }
 }
 
-// From the centre of a piece outwards, by an edge for each letter of its right half: to the piece's row, or to nowhere.
+// From the centre of a piece outwards, by an edge for each letter of its right half: to the piece's
+// row, or to none where an edge is missing.
 fn outwards(b: &[u8], piece: &[u8]) -> Option<usize>
     requires good { Good b.now }
     requires piece_nonzero { (0 < length piece.now) × (all_letters piece.now ≡ true) × Symmetric (rule_of b.now) piece.now }
     ensures { result ≡ reached_in b.now piece.now }
 {
     let mut row = centre(piece.len());
-    for c in &piece[piece.len() / 2..] {
-        row = rows::edge_of(b, row, *c);
+    for &c in &piece[piece.len() / 2..] {
+        row = rows::edge_of(b, row, c);
         if row == Row::IMAGINARY {
             return None;
         }
