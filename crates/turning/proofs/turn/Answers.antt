@@ -1,5 +1,5 @@
 -- Where the reading is another the record is made anew.
-use Rattle.std.proofs.Common.{sym, ◌∙◌}
+use Rattle.std.proofs.Common.{◌≢◌, sym, ◌∙◌}
 use Rattle.walk.proofs.Stores.{header-fits}
 use Rattle.transitions.proofs.Turned.{turned_same, turned-other}
 use Rattle.turning.proofs.turn.Goals as goal
@@ -9,7 +9,8 @@ reading-requires c = header-fits c.requires.sized
 
 pub returns-then-reading-reading_number : goal.returns-then-reading-reading_number
 returns-then-reading-reading_number c =
-    c.remake.ensures ∙ sym (turned-other _ _ (λ e. c.if-reading-reading_number.true (c.reading.ensures.0 ∙ e ∙ sym c.reading_number.ensures)))
+    let other : c.reading.result ≢ c.reading_number.result = c.if-reading-reading_number.true in
+    c.remake.ensures ∙ sym (turned-other _ _ (λ e. other (c.reading.ensures.0 ∙ e ∙ sym c.reading_number.ensures)))
 
 pub returns-else-reading-reading_number : goal.returns-else-reading-reading_number
 returns-else-reading-reading_number c =
