@@ -6,7 +6,7 @@ use mathlib.Core.Path.{◌≡◌, refl, sym, ap, ap₂, ◌∙◌}
 use mathlib.Core.Bool.{true}
 use mathlib.Core.List.{List, [], ◌∷◌}
 use lib.ListN.{length, take, get_or, length-append}
-use lib.Seq.{take-suc, take-length, take_at, length-take-le, get_or-append_seam}
+use lib.Seq.{take-suc, take_at, length-take-le, get_or-append_seam}
 use Rattle.palindromes.specs.Word.{Word, is_letter, all_letters}
 use Rattle.palindromes.specs.Reading.{as_plain, reading_number, rule_in}
 use Rattle.palindromes.specs.End.{End}
