@@ -38,8 +38,7 @@ pub fn add(b: &mut [u8], side: Side, c: u8, p: u8) -> Added
     requires b_bound { size_in b.old < capacity_in b.old }
     ensures { Adds (end_of side) c b.old b.new result }
 {
-    let growth = growth::find(b, side, c, p);
-    match growth {
+    match growth::find(b, side, c, p) {
         Growth::Fresh(row, passed) => Added::New(insertion::insert(b, side, c, row), passed),
         Growth::Stood(q, passed) => {
             add_known(b, side, c, q);

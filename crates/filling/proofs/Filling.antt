@@ -6,7 +6,7 @@ use mathlib.Core.Path.{◌≡◌, refl, sym, ap, ap₂, ◌∙◌}
 use mathlib.Core.Bool.{true}
 use mathlib.Core.List.{List, [], ◌∷◌}
 use lib.ListN.{length, take, get_or, length-append}
-use lib.Seq.{take-suc, take-length, take_at, length-take-le, get_or-append_seam}
+use lib.Seq.{take-suc, take_at, length-take-le, get_or-append_seam}
 use Rattle.palindromes.specs.Word.{Word, is_letter, all_letters}
 use Rattle.palindromes.specs.Reading.{as_plain, reading_number, rule_in}
 use Rattle.palindromes.specs.End.{End}
@@ -47,11 +47,7 @@ module _ (e : End) (b w : Word) (g : Good b) (all : all_letters w ≡ true) (roo
     pub one_more : i < length w → after_addition e (get_or w i 0) partly ≡ after_additions e (take (i + 1) w) b
     one_more l = sym (additions-more e (take i w) (get_or w i 0) b) ∙ ap (λ (s : Word). after_additions e s b) (rw (add-one i, take-suc w i 0 l) refl)
 
--- past the last letter all have joined
-pub all-joined : (e : End) (b w : Word) (i : ℕ) → i ≡ length w → after_additions e (take i w) b ≡ after_additions e w b
-all-joined e b w i j = rw (j, take-length w) refl
-
--- and the last of them is the one behind all others
+-- the last of them is the one behind all others
 pub last-brings : (e : End) (b w : Word) (a : Added) → ((j : ℕ) → length w ≡ j + 1 → a ≡ brought e (take j w) (get_or w j 0) b) → LastBrings e w b a
 last-brings e b w a h u c f =
     let n : length w ≡ length u + 1 = ap length f ∙ length-append u (c ∷ []) in

@@ -26,11 +26,8 @@ pub fn fill(store: &mut [u8], side: Side, letters: &[u8]) -> Added
 {
     let partners = table(header::reading(store));
     let mut last = Added::Known(0);
-    let mut i = 0;
-    while i < letters.len() {
-        let c = letters[i];
+    for &c in letters {
         last = addition::add(store, side, c, partner_in(&partners, c));
-        i += 1;
     }
     last
 }

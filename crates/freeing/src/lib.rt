@@ -26,11 +26,10 @@ fn leaf_of(b: &[u8], q: usize) -> Leaf
     requires { Leaves b.now q }
     ensures { LeafOf b.now q result }
 {
-    let outer = rows::outer_of(b, q);
     let last = header::count(b) - 1;
     Leaf {
         inner: rows::inner_of(b, q),
-        outer: outer as u8,
+        outer: rows::outer_of(b, q) as u8,
         rank: rows::rank_of(b, q),
         last,
         moved: rows::order_of(b, last),
@@ -38,6 +37,7 @@ fn leaf_of(b: &[u8], q: usize) -> Leaf
 }
 
 // Row q, of the place `rank` of the order, changes places with the row at the place `last`.
+#[tactic(auto, unfolding(store::specs::Writes::writes))]
 fn exchange(b: &mut [u8], q: usize, rank: usize, moved: usize, last: usize)
     requires rank_in_bounds { (24 * (rank + 2) + 24 ≤ length b.old) × (24 * moved + 24 ≤ length b.old) }
     requires last_in_bounds { (24 * (last + 2) + 24 ≤ length b.old) × (24 * q + 24 ≤ length b.old) }
@@ -50,6 +50,7 @@ fn exchange(b: &mut [u8], q: usize, rank: usize, moved: usize, last: usize)
 }
 
 // Frees row q: clears it and the edge that leads to it, and moves it behind the rows in use.
+#[tactic(auto, unfolding(store::specs::Writes::writes, transitions::specs::Removal::drop_writes))]
 pub fn free(b: &mut [u8], q: usize)
     requires { Leaves b.old q }
     ensures { b.new ≡ writes b.old (drop_writes b.old q) }

@@ -19,30 +19,6 @@ pub fn letter_at(b: &[u8], base: usize, n: usize, side: Side) -> u8
     }
 }
 
-// Moves the n letters at `base` one place to the right, the last one first.
-fn move_right(b: &mut [u8], base: usize, n: usize)
-    requires { base + n < length b.old }
-    ensures { b.new ≡ sets b.old (base + 1) (take n (drop base b.old)) }
-{
-    let mut k = n;
-    while 0 < k {
-        k -= 1;
-        b[base + k + 1] = b[base + k];
-    }
-}
-
-// Moves the n letters at `base + 1` one place to the left, the first one first.
-fn move_left(b: &mut [u8], base: usize, n: usize)
-    requires { base + n < length b.old }
-    ensures { b.new ≡ sets b.old base (take n (drop (base + 1) b.old)) }
-{
-    let mut k = 0;
-    while k < n {
-        b[base + k] = b[base + 1 + k];
-        k += 1;
-    }
-}
-
 // Adds the letter c at a side of the n letters at `base`.
 pub fn join(b: &mut [u8], base: usize, n: usize, side: Side, c: u8)
     requires { base + n < length b.old }
@@ -50,7 +26,7 @@ pub fn join(b: &mut [u8], base: usize, n: usize, side: Side, c: u8)
 {
     match side {
         Side::Left => {
-            move_right(b, base, n);
+            b.copy_within(base..base + n, base + 1);
             b[base] = c;
         }
         Side::Right => {
@@ -66,7 +42,7 @@ pub fn leave(b: &mut [u8], base: usize, n: usize, side: Side)
 {
     match side {
         Side::Left => {
-            move_left(b, base, n - 1);
+            b.copy_within(base + 1..base + n, base);
             b[base + (n - 1)] = 0;
         }
         Side::Right => {

@@ -2,10 +2,10 @@
 // length, and the largest length.
 #![tactic(auto)]
 
-ghost use Rattle.std.specs.Prelude.{◌≡◌, true, ◌+◌, ◌*◌, ◌≤◌, ◌<◌, max, length};
+ghost use Rattle.std.specs.Prelude.{◌≡◌, true, ◌+◌, ◌*◌, ◌≤◌, ◌<◌, length};
 ghost use Rattle.palindromes.specs.Record.{count_of_length};
 ghost use Rattle.store.specs.Good.{rule_of, Good};
-ghost use Rattle.store.specs.Layout.{longest_length_in, used_in, letters_in};
+ghost use Rattle.store.specs.Layout.{used_in, letters_in};
 ghost use Rattle.store.specs.Writes.{writes, carried_writes};
 ghost use Rattle.length_counts.specs.Steps.{LengthIn, Gained, Lowered, Without};
 
@@ -20,18 +20,6 @@ pub struct Carried {
     pub longest: usize,
 }
 
-// The largest length once a palindrome of length k has come.
-fn raised(b: &[u8], k: usize) -> usize
-    requires { 48 ≤ length b.now }
-    ensures { result ≡ max (longest_length_in b.now) k }
-{
-    let longest = header::longest(b);
-    if longest < k {
-        return k;
-    }
-    longest
-}
-
 // The largest length once a palindrome of length k has gone. If it was the only one of the largest length, the word
 // inside it is a palindrome that stays: so the next is one letter shorter or two.
 fn lowered(b: &[u8], k: usize) -> usize
@@ -40,19 +28,15 @@ fn lowered(b: &[u8], k: usize) -> usize
     ensures { Lowered b.now k result }
 {
     let longest = header::longest(b);
-    if k < longest {
-        return longest;
+    if k < longest || 1 < rows::count_of_length(b, k) {
+        longest
+    } else if k < 2 {
+        0
+    } else if 0 < rows::count_of_length(b, k - 1) {
+        k - 1
+    } else {
+        k - 2
     }
-    if 1 < rows::count_of_length(b, k) {
-        return longest;
-    }
-    if k < 2 {
-        return 0;
-    }
-    if 0 < rows::count_of_length(b, k - 1) {
-        return k - 1;
-    }
-    k - 2
 }
 
 // Without the palindrome of row q.
@@ -70,6 +54,7 @@ pub fn without(b: &[u8], q: usize) -> Carried
 }
 
 // Puts these numbers into the store.
+#[tactic(auto, unfolding(store::specs::Writes::writes))]
 pub fn put(b: &mut [u8], carried: Carried)
     requires { 24 * (carried.length + 1) + 24 ≤ length b.old }
     ensures { b.new ≡ writes b.old (carried_writes carried.length carried.count carried.longest) }
@@ -85,7 +70,7 @@ pub fn gain(b: &mut [u8], length: i32)
 {
     let k = to_stored(length) - 1;
     let count = rows::count_of_length(b, k) + 1;
-    let longest = raised(b, k);
+    let longest = header::longest(b).max(k);
     put(
         b,
         Carried {

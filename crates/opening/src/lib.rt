@@ -19,7 +19,9 @@ pub enum Reading {
     Inverted,
 }
 
-// The number that stands for a reading in a store.
+// The number that stands for a reading in a store. No `From` says it: callers and their proofs cite
+// this name and its contract.
+#[tactic(auto, unfolding(palindromes::specs::Reading::reading_number))]
 pub fn reading_number(reading: Reading) -> usize
     ensures { result ≡ reading_number (way_of reading) }
 {
@@ -34,15 +36,14 @@ fn number(b: &mut [u8], capacity: usize)
     requires { 24 * (capacity + 2) ≤ length b.old }
     ensures { b.new ≡ writes b.old (order_writes capacity) }
 {
-    let mut k = 0;
-    while k < capacity {
+    for k in 0..capacity {
         rows::put_order(b, k, k + 2);
         rows::put_rank(b, k + 2, k);
-        k += 1;
     }
 }
 
 // Puts the capacity, the reading, the lengths of both roots, and both ends at the empty string.
+#[tactic(auto, unfolding(store::specs::Writes::writes))]
 fn head(b: &mut [u8], reading: usize, capacity: usize)
     requires { 48 ≤ length b.old }
     ensures { b.new ≡ writes b.old (head_writes reading capacity) }
@@ -56,12 +57,12 @@ fn head(b: &mut [u8], reading: usize, capacity: usize)
 }
 
 // Leaves an empty record that is full at exactly `capacity` letters.
+#[tactic(auto, unfolding(palindromes::specs::Refusal::store_size, store::specs::Writes::writes, transitions::specs::Opening::opening_writes, transitions::specs::Opening::opened))]
 pub fn open(b: &mut [u8], reading: Reading, capacity: usize)
     requires { (1 ≤ capacity) × (capacity ≤ 1024) × (store_size capacity ≤ length b.old) }
     ensures { b.new ≡ opened (reading_number (way_of reading)) capacity b.old }
 {
-    let stored = reading_number(reading);
     bytes::clear(b, 24 * (capacity + 2) + capacity);
-    head(b, stored, capacity);
+    head(b, reading_number(reading), capacity);
     number(b, capacity);
 }

@@ -4,13 +4,15 @@
 -- Rests on the laws of a good store (`Rows` of transitions), on `gone-high` of `RemovedBytes` and on the frame laws of the store.
 use Prim.Native.Nat.{ℕ, ◌+◌, ◌-◌, ◌≤◌}
 use native.Mathlib.Omega.{arith}
-use mathlib.Core.Path.{◌≡◌, sym, ap, ◌∙◌, subst₂}
-use mathlib.Core.Bool.{true, false, cond, not}
+use mathlib.Core.Path.{◌≡◌, refl, sym, ap, ap₂, ◌∙◌, subst₂}
+use mathlib.Core.Bool.{Bool, true, false, cond, not}
 use mathlib.Core.List.{[], ◌∷◌, ◌++◌}
 use lib.Dec.{eqb}
 use lib.ListN.{length, take, drop}
 use lib.IntN.{pos}
 use lib.Seq.{sets, length-sets}
+use Rattle.std.specs.Prelude.{Option, Some, None}
+use Rattle.std.specs.Bool.{then_some}
 use Rattle.palindromes.specs.Word.{Word}
 use Rattle.palindromes.specs.End.{End, other, removed, letter_at, longest_at}
 use Rattle.palindromes.specs.Node.{spelt, length_of}
@@ -30,6 +32,7 @@ use Rattle.ends.specs.declared.Reach.{Reach}
 use Rattle.freeing.specs.Steps.{Leaves}
 use Rattle.length_counts.specs.Steps.{CarriedFor}
 use Rattle.length_counts.specs.declared.Carried.{Carried}
+use Rattle.removal.specs.declared.Parting.{Parting}
 use Rattle.removal.specs.Steps.{last_row, opposite_row, Parts}
 
 module _ {b : Word} (g : Good b) (e : End) where
@@ -41,21 +44,37 @@ module _ {b : Word} (g : Good b) (e : End) where
   end-length = g.table.length-is (end_row b e) (g.ends e).used ∙ ap length_of (end-holds e g)
 
   -- all that the code reads, and what it is told of the end, is what the definitions name
-  pub parted : {base n row link letter x : ℕ} {reach : Reach} → base ≡ letters_at (capacity_in b) → n ≡ size_in b → row ≡ end_row b e
+  pub parted : {base n row link letter x : ℕ} {reach : Reach} {gone : Option ℕ} → base ≡ letters_at (capacity_in b) → n ≡ size_in b → row ≡ end_row b e
       → Reaches b (used_in b) e (letters_in b) reach → letter ≡ letter_at e (take n (drop base b)) → link ≡ link_in b row
-      → x ≡ cond (eqb (length (longest_before e b)) n) link (end_row b (other e))
-      → Parts b e (record { letter = letter; row = row; met = reach.again; last = reach.short; opposite = x })
+      → x ≡ cond (eqb (length (longest_before e b)) n) link (end_row b (other e)) → gone ≡ then_some (not reach.again) row
+      → Parts b e (record { letter = letter; gone = gone; last = reach.short; opposite = x })
   unfolding letters_in takes_out longest_before
-  parted {reach} i j k h l m y =
+  parted {reach} i j k h l m y z =
       record {
         letter-is = cc;
-        row_is = k;
-        met-is = ap not (sym h.again-is);
+        gone-is = z ∙ ap₂ then_some (ap not h.again-is) k;
         last-is = sym (row-of g reach.short (spelt (longest_at (rule_of b) e (removed e (letters_in b)))) h.short-used h.short-holds);
         opposite-is = cc;
       }
 
 -- ---- the row that goes
+
+some-row : (t : Bool) (q r : ℕ) → then_some t q ≡ Some r → (t ≡ true) × (r ≡ q)
+some-row true q r e = (refl, cc)
+some-row false q r e = cc
+
+no-row : (t : Bool) (q : ℕ) → then_some t q ≡ None → t ≡ false
+no-row true q e = cc
+no-row false q e = refl
+
+module _ {b : Word} {e : End} {p : Parting} (h : Parts b e p) where
+  -- where one is found, the palindrome there goes, and the row is the end's
+  pub goes : {row : ℕ} → p.gone ≡ Some row → (takes_out e b ≡ true) × (row ≡ end_row b e)
+  goes {row} i = some-row (takes_out e b) (end_row b e) row (sym h.gone-is ∙ i)
+
+  -- where none is found it stays
+  pub stays : p.gone ≡ None → takes_out e b ≡ false
+  stays i = no-row (takes_out e b) (end_row b e) (sym h.gone-is ∙ i)
 
 -- what is read and written of a row that is no root lies within the store
 pub leaf : {b : Word} → Good b → (q : ℕ) → used_in b q ≡ true → 2 ≤ q → Leaves b q

@@ -1,5 +1,6 @@
 -- What the contracts say of a removal: what it finds before it writes, and what is promised of the whole.
-use Rattle.std.specs.Prelude.{ℕ, ◌≡◌, cond, not, eqb, length}
+use Rattle.std.specs.Prelude.{ℕ, ◌≡◌, cond, eqb, length, Option}
+use Rattle.std.specs.Bool.{then_some}
 use Rattle.palindromes.specs.Word.{Word}
 use Rattle.palindromes.specs.End.{End, other, removed, letter_at, longest_at}
 use Rattle.palindromes.specs.Node.{spelt}
@@ -19,11 +20,14 @@ last_row b e = row_of b (spelt (longest_at (rule_of b) e (removed e (letters_in 
 abbrev pub opposite_row : Word → End → ℕ
 opposite_row b e = cond (eqb (length (longest_before e b)) (size_in b)) (link_in b (end_row b e)) (end_row b (other e))
 
--- the letter that goes, the row of the longest palindrome there, whether that stands elsewhere, and the rows of both ends without the letter
+-- the row of the longest palindrome at an end, if that goes with the end's letter
+abbrev pub gone_row : Word → End → Option ℕ
+gone_row b e = then_some (takes_out e b) (end_row b e)
+
+-- the letter that goes, the row that goes with it, and the rows of both ends without the letter
 pub record Parts (b : Word) (e : End) (p : Parting) : Type 0 where
   pub letter-is : p.letter ≡ letter_at e (letters_in b)
-  pub row_is : p.row ≡ end_row b e
-  pub met-is : takes_out e b ≡ not p.met
+  pub gone-is : p.gone ≡ gone_row b e
   pub last-is : p.last ≡ last_row b e
   pub opposite-is : p.opposite ≡ opposite_row b e
 

@@ -2,7 +2,7 @@
 // told by whoever read the letters: a test of the store does.
 #![tactic(auto)]
 
-ghost use Rattle.std.specs.Prelude.{◌≡◌, true, false, ◌<◌};
+ghost use Rattle.std.specs.Prelude.{◌≡◌, ◌<◌};
 ghost use Rattle.store.specs.Good.{Good};
 ghost use Rattle.store.specs.Layout.{size_in, used_in, letters_in};
 ghost use Rattle.store.specs.Side.{end_of};
@@ -16,13 +16,12 @@ use store::letters::Side;
 use store::{header, rows};
 use walk::frame;
 
-// What a removal finds before it writes: the letter, the row of the longest palindrome at its end,
-// whether that stands without the letter, and the rows of both ends without it.
+// What a removal finds before it writes: the letter, the row of the longest palindrome at its end if
+// that goes with it, since it stands nowhere else, and the rows of both ends without the letter.
 #[derive(Clone, Copy)]
 struct Parting {
     pub letter: u8,
-    pub row: usize,
-    pub met: bool,
+    pub gone: Option<usize>,
     pub last: usize,
     pub opposite: usize,
 }
@@ -40,24 +39,23 @@ fn part(b: &[u8], side: Side, reach: Reach) -> Parting
     let link = rows::link_of(b, row);
     Parting {
         letter: joining::letter_at(b, f.base, f.n, side),
-        row,
-        met: reach.again,
+        gone: (!reach.again).then_some(row),
         last: reach.short,
         opposite: ends::across(b, side, longest, f.n, link),
     }
 }
 
-// Removes the letter at a side, with the palindrome that stood nowhere else.
-fn take_out(b: &mut [u8], side: Side, p: Parting)
+// Removes the letter at a side, with the palindrome of the given row, which stood nowhere else.
+fn take_out(b: &mut [u8], side: Side, row: usize, p: Parting)
     requires good { Good b.old }
     requires b_nonzero { 0 < size_in b.old }
-    requires parts { Parts b.old (end_of side) p × (p.met ≡ false) }
+    requires parts { Parts b.old (end_of side) p × (p.gone ≡ Some row) }
     ensures { b.new ≡ after_removal (end_of side) b.old }
 {
     let f = frame::frame_of(b);
-    let lengths = length_counts::without(b, p.row);
+    let lengths = length_counts::without(b, row);
     joining::leave(b, f.base, f.n, side);
-    freeing::free(b, p.row);
+    freeing::free(b, row);
     length_counts::put(b, lengths);
     ends::settle(b, side, f.n - 1, p.last, p.opposite);
 }
@@ -66,7 +64,7 @@ fn take_out(b: &mut [u8], side: Side, p: Parting)
 fn leave_rows(b: &mut [u8], side: Side, p: Parting)
     requires good { Good b.old }
     requires b_nonzero { 0 < size_in b.old }
-    requires parts { Parts b.old (end_of side) p × (p.met ≡ true) }
+    requires parts { Parts b.old (end_of side) p × (p.gone ≡ None) }
     ensures { b.new ≡ after_removal (end_of side) b.old }
 {
     let f = frame::frame_of(b);
@@ -82,10 +80,14 @@ pub fn remove(b: &mut [u8], side: Side, reach: Reach) -> Removed
     ensures { Removes (end_of side) b.old b.new result }
 {
     let p = part(b, side, reach);
-    if p.met {
-        leave_rows(b, side, p);
-        return Removed::Kept(p.letter);
+    match p.gone {
+        Some(row) => {
+            take_out(b, side, row, p);
+            Removed::Gone(p.letter, row)
+        }
+        None => {
+            leave_rows(b, side, p);
+            Removed::Kept(p.letter)
+        }
     }
-    take_out(b, side, p);
-    Removed::Gone(p.letter, p.row)
 }

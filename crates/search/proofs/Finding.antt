@@ -36,8 +36,7 @@ use Rattle.transitions.proofs.Rows.{covers, row-of}
 use Rattle.outcome.specs.declared.answers.Found.{Found}
 use Rattle.outcome.specs.declared.answers.Found.TheVariants as found
 use Rattle.outcome.specs.Answers.{found_of}
-use Rattle.search.specs.declared.Reached.{Reached}
-use Rattle.search.specs.declared.Reached.TheVariants.{At, Nowhere}
+use Rattle.std.specs.Prelude.{Option, Some, None}
 use Rattle.search.specs.Search.{is_palindrome_in, reached_of, reached_in, found_in}
 
 -- what is known when the letters of the piece from its middle up to the place k have been read
@@ -48,9 +47,9 @@ pub record Along (b p : Word) (k row : ℕ) : Type 0 where
   pub holds : node_in b row ≡ reached (rule_of b) p k
 
 -- what find answers for a piece that reads alike, by where the edges led
-abbrev pub answered : Reached → Found
-answered (At row) = found.At row 0
-answered Nowhere = found.Absent 0
+abbrev pub answered : Option ℕ → Found
+answered (Some row) = found.At row 0
+answered None = found.Absent 0
 
 -- a table of partners is the store's rule on the letters of a piece, so the pairs compared by it are those of the store's reading
 pub by-partners : (b p t : Word) → PartnersIn (reading_in b) t → all_letters p ≡ true → (n r : ℕ) → n ≡ length p - length p / 2 → Mismatch (lent.rule_of t) p n r
@@ -94,7 +93,7 @@ module _ {b : Word} (g : Good b) (p : Word) where
   too_long f h =
       sym (handed-on false (not-true-false (is_palindrome_in b p) λ m. omega (arith, letters-length g.sized, stands-length (palindromes-true (rule_of b) p (letters_in b) m).1)) f)
 
-  pub by-edges : first_mismatch (rule_of b) p ≡ 0 → (x : Reached) → x ≡ reached_in b p → answered x ≡ found_in b p
+  pub by-edges : first_mismatch (rule_of b) p ≡ 0 → (x : Option ℕ) → x ≡ reached_in b p → answered x ≡ found_in b p
   by-edges f x e = go (is_palindrome_in b p) refl
     where
       go : (t : Bool) → is_palindrome_in b p ≡ t → answered x ≡ found_in b p
@@ -116,7 +115,7 @@ module _ {b : Word} (g : Good b) (p : Word) where
 
   module _ (k row : ℕ) (a : Along b p k row) where
     -- the whole piece has been read: it is a palindrome of the record, and the row is its own
-    pub along-last : (p ≡ [] → ⊥) → Symmetric (rule_of b) p → k ≡ length p → At row ≡ reached_in b p
+    pub along-last : (p ≡ [] → ⊥) → Symmetric (rule_of b) p → k ≡ length p → Some row ≡ reached_in b p
     along-last n s e =
         let h : node_in b row ≡ spelt p = cc (a.holds, reached-whole (rule_of b) p s) in
         let m : NodeOf (rule_of b) (letters_in b) (spelt p) = subst (NodeOf (rule_of b) (letters_in b)) h ((covers g).each_row row a.used) in
@@ -130,7 +129,7 @@ module _ {b : Word} (g : Good b) (p : Word) where
       letter = letter-of p k l z
 
       -- there is no edge by the next letter
-      pub no_edge : q ≡ 0 → Nowhere ≡ reached_in b p
+      pub no_edge : q ≡ 0 → None ≡ reached_in b p
       no_edge f =
           let absent : is_palindrome_in b p ≡ false =
           missing-edge (rule_of b) (letters_in b) p k a.low l

@@ -14,50 +14,40 @@ use partners::table;
 use store::rows::Row;
 use store::{header, rows};
 
-// Where the edges from the centre of a piece lead: to the piece's row, or nowhere.
-#[derive(Clone, Copy)]
-pub enum Reached {
-    At(usize),
-    Nowhere,
-}
-
 // The row in the centre of a palindrome of n letters: the empty string's for an even number, the
 // imaginary string's for an odd one.
 fn centre(n: usize) -> usize
     ensures { result ≡ cond (eqb (n % 2) 0) 1 0 }
 {
     if n % 2 == 0 {
-        return Row::EMPTY;
+        Row::EMPTY
+    } else {
+        Row::IMAGINARY
     }
-    Row::IMAGINARY
 }
 
-// From the centre of a piece outwards, by an edge for each letter of its right half.
-fn outwards(b: &[u8], piece: &[u8]) -> Reached
+// From the centre of a piece outwards, by an edge for each letter of its right half: to the piece's
+// row, or to none where an edge is missing.
+fn outwards(b: &[u8], piece: &[u8]) -> Option<usize>
     requires good { Good b.now }
     requires piece_nonzero { (0 < length piece.now) × (all_letters piece.now ≡ true) × Symmetric (rule_of b.now) piece.now }
     ensures { result ≡ reached_in b.now piece.now }
 {
     let mut row = centre(piece.len());
-    let mut k = piece.len() / 2;
-    while k < piece.len() {
-        row = rows::edge_of(b, row, piece[k]);
+    for &c in &piece[piece.len() / 2..] {
+        row = rows::edge_of(b, row, c);
         if row == Row::IMAGINARY {
-            return Reached::Nowhere;
+            return None;
         }
-        k += 1;
     }
-    Reached::At(row)
+    Some(row)
 }
 
 // The number of a pair as an answer holds it: what two bytes cannot tell is the largest that they can.
 fn reported(pair: usize) -> usize
     ensures { result ≡ min pair 65535 }
 {
-    if pair < 65535 {
-        return pair;
-    }
-    65535
+    pair.min(65535)
 }
 
 // Where the piece and its reversal disagree first, and the row of a piece that is a palindrome of
@@ -76,8 +66,8 @@ pub fn find(b: &[u8], piece: &[u8]) -> Found
     if header::size(b) < piece.len() {
         return Found::Absent(0);
     }
-    let Reached::At(row) = outwards(b, piece) else {
-        return Found::Absent(0);
-    };
-    Found::At(row, 0)
+    match outwards(b, piece) {
+        Some(row) => Found::At(row, 0),
+        None => Found::Absent(0),
+    }
 }

@@ -20,9 +20,10 @@ pub fn spelling_length(b: &[u8], r: usize) -> usize
     ensures { result ≡ length (spelling_of (node_in b.now r)) }
 {
     if r == Row::IMAGINARY {
-        return 0;
+        0
+    } else {
+        lengths::to_stored(rows::length_of(b, r)) - 1
     }
-    lengths::to_stored(rows::length_of(b, r)) - 1
 }
 
 // The last letter of row r's palindrome.

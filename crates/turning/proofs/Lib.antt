@@ -1,2 +1,2 @@
--- how the letters are set aside, and what is then made of them
+-- what is made of the letters that are set aside
 pub mod Turns

@@ -1,12 +1,9 @@
--- The letters of a store set aside one by one, and what a turn is for a store whose letters these are. Rests on `Turned` of transitions. Assumes nothing.
+-- What a turn is for a store whose letters have been set aside. Rests on `Turned` of transitions. Assumes nothing.
 use Prim.Native.Nat.{ℕ, ◌+◌, ◌*◌, ◌≤◌, ◌<◌}
 use native.Mathlib.Omega.{arith}
-use native.Mathlib.Numerals.{add-one}
-use mathlib.Core.Path.{◌≡◌, sym, ap, ap₂, ◌∙◌}
+use mathlib.Core.Path.{◌≡◌, ap, ap₂, ◌∙◌}
 use mathlib.Core.Bool.{true}
-use mathlib.Core.List.{[], ◌∷◌, ◌++◌}
-use lib.ListN.{length, take, drop, set, get_or, length-drop}
-use lib.Seq.{take-suc, take-suc-set, get_or-drop}
+use lib.ListN.{length, take, drop}
 use Rattle.palindromes.specs.Word.{Word, all_letters}
 use Rattle.palindromes.specs.Refusal.{store_size}
 use Rattle.palindromes.specs.End.{at_right}
@@ -16,15 +13,6 @@ use Rattle.walk.proofs.Stores.{store_long}
 use Rattle.transitions.specs.Opening.{opened}
 use Rattle.transitions.specs.Turning.{after_additions}
 use Rattle.transitions.proofs.Turned.{can-take, letters-few}
-
--- one letter more is set aside
-pub one-aside : (l s : Word) (base i : ℕ) → i < length l → base + i < length s → take i l ≡ take i (drop base s) → take (i + 1) (set l i (get_or s (base + i) 0)) ≡ take (i + 1) (drop base s)
-one-aside l s base i h h' e =
-    rw (add-one i)
-    (take-suc-set l i (get_or s (base + i) 0) h
-    ∙ ap (λ (w : Word). w ++ (get_or s (base + i) 0 ∷ [])) e
-    ∙ ap (λ (x : ℕ). take i (drop base s) ++ (x ∷ [])) (sym (get_or-drop base s i 0))
-    ∙ sym (take-suc (drop base s) i 0 (rw length-drop (omega arith))))
 
 module _ {b : Word} (g : Good b) {k n : ℕ} (capacity : k ≡ capacity_in b) (size : n ≡ size_in b) where
   -- the letters lie within the store, and are no more than a record may have

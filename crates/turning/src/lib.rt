@@ -22,11 +22,7 @@ fn letters_at(b: &[u8], base: usize, n: usize) -> [u8; 1024]
     ensures { (length result ≡ 1024) × (take n result ≡ take n (drop base b.now)) }
 {
     let mut letters = [0u8; 1024];
-    let mut i = 0;
-    while i < n {
-        letters[i] = b[base + i];
-        i += 1;
-    }
+    letters[..n].copy_from_slice(&b[base..base + n]);
     letters
 }
 
