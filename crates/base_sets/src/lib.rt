@@ -65,7 +65,7 @@ fn set_of(letters: &[u8; 32], c: u8) -> u8
     ensures { result ≡ set_of c }
 {
     if c / 64 == 1 {
-        letters[(c % 32) as usize]
+        letters[usize::from(c % 32)]
     } else {
         0
     }
@@ -86,15 +86,13 @@ pub fn read_sets(text: &[u8], sets: &mut [u8], certain: &mut [u8]) -> bool
     ensures sets { result ≡ true → SetsRead text.now sets.new certain.new }
 {
     let letters = letter_sets();
-    let mut i = 0;
-    while i < text.len() {
-        let set = set_of(&letters, text[i]);
+    for (i, c) in text.iter().enumerate() {
+        let set = set_of(&letters, *c);
         if set == 0 {
             return false;
         }
         sets[i] = set;
         certain[i] = certain_of(set);
-        i += 1;
     }
     true
 }
