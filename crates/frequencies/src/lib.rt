@@ -23,15 +23,13 @@ fn count_longest(b: &[u8], ends: &mut [u16], counts: &mut [u16])
     ensures counted { HandedFrom b.now (size_in b.now) counts.new }
 {
     let n = header::size(b);
-    let mut k = 0;
-    while k < n {
-        let row = ends[k] as usize;
+    for end in ends[..n].iter_mut() {
+        let row = usize::from(*end);
         let count = counts[row];
         if count != 0 {
-            ends[k] = 0;
+            *end = 0;
         }
         counts[row] = count + 1;
-        k += 1;
     }
 }
 
@@ -61,10 +59,8 @@ fn add_along_links(b: &[u8], firsts: &[u16], counts: &mut [u16]) -> usize
     ensures total { result ≡ occurrences_by_row (rule_of b.now) (letters_in b.now) }
 {
     let mut total = 0;
-    let mut k = header::size(b);
-    while 0 < k {
-        k -= 1;
-        total += hand_on(b, counts, firsts[k] as usize);
+    for first in firsts[..header::size(b)].iter().rev() {
+        total += hand_on(b, counts, usize::from(*first));
     }
     total
 }
