@@ -22,10 +22,7 @@ fn is_minimal(b: &[u8], marks: &[u8], row: usize) -> bool
     requires row_value { used_in b.now row ≡ true }
     ensures { result ≡ is_minimal_unique (rule_of b.now) (letters_in b.now) (spelling_of (node_in b.now row)) }
 {
-    if marks[row] != 1 {
-        return false;
-    }
-    marks[rows::inner_of(b, row)] == 2
+    marks[row] == 1 && marks[rows::inner_of(b, row)] == 2
 }
 
 // How many minimal unique palindromes there are.
@@ -35,14 +32,11 @@ pub fn count_minimal(b: &[u8], firsts: &[u16], marks: &[u8]) -> usize
     requires marks { Marks b.now (size_in b.now) marks.now }
     ensures { result ≡ length (minimal_unique (rule_of b.now) (letters_in b.now)) }
 {
-    let n = header::size(b);
     let mut total = 0;
-    let mut k = 0;
-    while k < n {
-        if is_minimal(b, marks, firsts[k] as usize) {
+    for first in &firsts[..header::size(b)] {
+        if is_minimal(b, marks, usize::from(*first)) {
             total += 1;
         }
-        k += 1;
     }
     total
 }
@@ -54,10 +48,8 @@ fn put_interval(out: &mut [u8], at: usize, start: usize, end: usize) -> usize
     ensures written { out.new ≡ sets out.old at (interval_bytes (interval start end ∷ [])) }
     ensures behind { result ≡ at + 4 }
 {
-    out[at] = (start % 256) as u8;
-    out[at + 1] = (start / 256) as u8;
-    out[at + 2] = (end % 256) as u8;
-    out[at + 3] = (end / 256) as u8;
+    out[at..at + 2].copy_from_slice(&(start as u16).to_le_bytes());
+    out[at + 2..at + 4].copy_from_slice(&(end as u16).to_le_bytes());
     at + 4
 }
 
@@ -69,14 +61,12 @@ pub fn put_minimal(b: &[u8], firsts: &[u16], marks: &[u8], out: &mut [u8])
     requires b_in_bounds { length (interval_bytes (minimal_unique (rule_of b.now) (letters_in b.now))) ≤ length out.old }
     ensures { out.new ≡ sets out.old 0 (interval_bytes (minimal_unique (rule_of b.now) (letters_in b.now))) }
 {
-    let n = header::size(b);
     let mut at = 0;
-    let mut k = 0;
-    while k < n {
-        let row = firsts[k] as usize;
-        k += 1;
+    for (k, first) in firsts[..header::size(b)].iter().enumerate() {
+        let row = usize::from(*first);
         if is_minimal(b, marks, row) {
-            at = put_interval(out, at, k - spelling_length(b, row), k);
+            let end = k + 1;
+            at = put_interval(out, at, end - spelling_length(b, row), end);
         }
     }
 }
