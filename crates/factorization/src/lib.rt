@@ -27,16 +27,12 @@ fn fill(b: &[u8], lasts: &mut [u16], factors: &mut [u16], memos: &mut [u32]) -> 
     ensures steps { result ≡ series_steps (rule_of b.now) (letters_in b.now) }
     ensures few { result ≤ size_in b.now * most_series }
 {
-    let n = header::size(b);
-    let mut k = 0;
     let mut steps = 0;
-    while k < n {
-        let found = last_factor(b, k + 1, lasts[k] as usize, factors, memos);
-        let start = found.start;
+    for k in 0..header::size(b) {
+        let found = last_factor(b, k + 1, usize::from(lasts[k]), factors, memos);
         steps += found.turns;
-        lasts[k] = start as u16;
-        k += 1;
-        factors[k] = factors[start] + 1;
+        lasts[k] = found.start as u16;
+        factors[k + 1] = factors[found.start] + 1;
     }
     steps
 }
@@ -61,7 +57,7 @@ pub fn factorize(b: &[u8], lasts: &mut [u16]) -> Factors
     let mut factors = [0u16; 1025];
     let mut memos = [0u32; 1026];
     let steps = fill(b, lasts, &mut factors, &mut memos);
-    let number = factors[header::size(b)] as usize;
+    let number = usize::from(factors[header::size(b)]);
     Factors { number, steps }
 }
 
@@ -76,8 +72,7 @@ pub fn put_ends(b: &[u8], lasts: &[u16], number: usize, out: &mut [u8])
     let mut end = header::size(b);
     while 0 < end {
         at -= 2;
-        out[at + 1] = (end / 256) as u8;
-        out[at] = (end % 256) as u8;
-        end = lasts[end - 1] as usize;
+        out[at..at + 2].copy_from_slice(&(end as u16).to_le_bytes());
+        end = usize::from(lasts[end - 1]);
     }
 }
