@@ -51,10 +51,7 @@ fn better_of(factors: &[u16], a: usize, q: usize) -> usize
     requires { (a < length factors.now) × (q < length factors.now) }
     ensures { result ≡ better (λ p. get_or factors.now p 0) a q }
 {
-    if factors[q] < factors[a] {
-        return q;
-    }
-    a
+    if factors[q] < factors[a] { q } else { a }
 }
 
 // The chosen place of a series, and the row after it.
@@ -123,9 +120,10 @@ pub fn last_factor(
     let mut start = i + 1 - cells::get(b, longest, 0);
     let mut turns = 0;
     while Row::EMPTY < row {
-        let s = jump(b, i, row, factors, memos);
-        let chosen = s.place;
-        let next = s.next;
+        let Series {
+            place: chosen,
+            next,
+        } = jump(b, i, row, factors, memos);
         memos[row] = memo_of(i + 2 - cells::get(b, row, 0), next, chosen);
         start = better_of(factors, start, chosen);
         row = next;
