@@ -1,5 +1,5 @@
-// The longest stretches whose facing sets meet, around every centre, from the middle outwards: of the sets
-// of all codes, and of those of the certain ones.
+// The longest stretches whose facing sets meet, around every centre, from the middle outwards: of
+// the sets of all codes, and of those of the certain ones.
 #![tactic(auto)]
 
 ghost use Rattle.std.specs.Prelude.{◌≡◌, ◌+◌, ◌≤◌, length};
@@ -12,8 +12,8 @@ pub struct Lengths {
     pub every: usize,
 }
 
-// The maximal radius at a centre: how many places more at either side leave facing sets that meet, of as
-// many as there is room for. The first `known` do.
+// The maximal radius at a centre: how many places more at either side leave facing sets that
+// meet, of as many as there is room for. The first `known` do.
 fn maximal_radius(sets: &[u8], left: usize, right: usize, room: usize, known: usize) -> usize
     requires { Centre sets.now left right room × Radius sets.now left right known }
     ensures { MaximalRadius sets.now left right known result }
@@ -26,8 +26,9 @@ fn maximal_radius(sets: &[u8], left: usize, right: usize, room: usize, known: us
     room
 }
 
-// The best lengths after one more centre. What serves every choice serves some, so the search for some
-// choice begins where that for every choice ended; it is left out where there is no room to beat the best.
+// The best lengths after one more centre. What serves every choice serves some, so the search for
+// some choice begins where that for every choice ended; it is left out where there is no room to
+// beat the best.
 fn at_centre(
     sets: &[u8],
     certain: &[u8],
@@ -51,8 +52,9 @@ fn at_centre(
     }
 }
 
-// Both lengths. The two centres that are t half places from the middle have room for n - t places in all,
-// so the search ends once that cannot beat the best for every choice, which is not above that for some.
+// Both lengths. The two centres that are t half places from the middle have room for n - t places
+// in all, so the search ends once that cannot beat the best for every choice, which is not above
+// that for some.
 pub fn longest(sets: &[u8], certain: &[u8]) -> Lengths
     requires { Within certain.now sets.now × (length sets.now ≤ 1024) }
     ensures { Longest sets.now certain.now result }

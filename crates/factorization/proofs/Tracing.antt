@@ -33,7 +33,8 @@ two-stored {u} l at n h s e =
     let bytes : u ≡ n % 256 ∷ n / 256 ∷ [] = e ∙ ap (λ (x : ℕ). n % 256 ∷ x ∷ []) high in
     let two : length u ≡ 2 = ap length bytes in
     let size : length u ≡ k = omega arith in
-    let part : put_mid at k l u ≡ sets l at u = rw (drop-drop, ← size) (sym (sets-eq u l at (omega arith) ∙ append_assoc (take at l) u (drop (at + length u) l))) in
+    let whole = sets-eq u l at (omega arith) ∙ append_assoc (take at l) u (drop (at + length u) l) in
+    let part : put_mid at k l u ≡ sets l at u = rw (drop-drop, ← size) (sym whole) in
     part ∙ ap (sets l at) bytes ∙ rw add-one (set_comm l at (suc at) (n % 256) (n / 256) (λ e. omega arith))
 
 -- where the factor that ends at a place begins, by the list

@@ -1,5 +1,6 @@
-// The factorization of a record into the fewest palindromes: for each right end how many there are of the letters up to it, and where
-// the last of them begins; and their ends, traced back from the last one.
+// The factorization of a record into the fewest palindromes: for each right end how many there
+// are of the letters up to it, and where the last of them begins; and their ends, traced back
+// from the last one.
 #![tactic(auto)]
 
 ghost use Rattle.std.specs.Prelude.{◌≡◌, ◌+◌, ◌*◌, ◌≤◌, length, replicate};
@@ -16,8 +17,8 @@ use end_rows::rows_at_ends;
 use last_factor::last_factor;
 use store::header;
 
-// For each right end the fewest factors of the letters up to it, and where the last of them begins in place of the end's row. Answers
-// how many series were passed.
+// For each right end the fewest factors of the letters up to it, and where the last of them
+// begins in place of the end's row. Answers how many series were passed.
 fn fill(b: &[u8], lasts: &mut [u16], factors: &mut [u16], memos: &mut [u32]) -> usize
     requires good { Good b.now }
     requires b_value { (reading_in b.now ≡ 0) × EndRows b.now lasts.old }
@@ -44,7 +45,8 @@ pub struct Factors {
     pub steps: usize,
 }
 
-// For each right end where the last factor of the letters up to it begins. Answers how many factors the whole record has.
+// For each right end where the last factor of the letters up to it begins. Answers how many
+// factors the whole record has.
 pub fn factorize(b: &[u8], lasts: &mut [u16]) -> Factors
     requires good { Good b.now × (reading_in b.now ≡ 0) }
     requires b_in_bounds { size_in b.now ≤ length lasts.old }
@@ -61,7 +63,8 @@ pub fn factorize(b: &[u8], lasts: &mut [u16]) -> Factors
     Factors { number, steps }
 }
 
-// Writes the ends of the factors at the front of the buffer, two bytes each, low byte first. They are traced back from the last one.
+// Writes the ends of the factors at the front of the buffer, two bytes each, low byte first. They
+// are traced back from the last one.
 pub fn put_ends(b: &[u8], lasts: &[u16], number: usize, out: &mut [u8])
     requires good { Good b.now × (reading_in b.now ≡ 0) }
     requires last_starts { LastStarts b.now (size_in b.now) lasts.now }

@@ -1,7 +1,8 @@
-// The row of a stretch of the letters: from the row of the longest palindrome that ends where the stretch
-// ends, down the links to one that is as long. Besides its link each row has a jump to a row further
-// down, so that the way has a number of steps in the order of the logarithm of the chain's length (Myers,
-// An applicative random-access stack, 1983). Which jumps there are matters to the time alone.
+// The row of a stretch of the letters: from the row of the longest palindrome that ends where the
+// stretch ends, down the links to one that is as long. Besides its link each row has a jump to a
+// row further down, so that the way has a number of steps in the order of the logarithm of the
+// chain's length (Myers, An applicative random-access stack, 1983). Which jumps there are matters
+// to the time alone.
 #![tactic(auto)]
 
 ghost use Rattle.std.specs.Prelude.{◌≡◌, ◌<◌, ◌≤◌, true, ◌⊎◌, length, replicate};
@@ -14,8 +15,8 @@ use spelling::spelling_length;
 use store::rows::Row;
 use store::{header, rows};
 
-// Where a row's jump goes, by the depths of its link, of that one's jump and of the jump's jump: past both
-// if they are equally far, and else to the link.
+// Where a row's jump goes, by the depths of its link, of that one's jump and of the jump's jump:
+// past both if they are equally far, and else to the link.
 fn landing(depths: &[u16], near: usize, far: usize, further: usize) -> usize
     requires { (near < length depths.now) × (far < length depths.now) × (further < length depths.now) }
     ensures { (result ≡ near) ⊎ (result ≡ further) }
@@ -42,7 +43,8 @@ fn set_jump(b: &[u8], jumps: &mut [u16], depths: &mut [u16], row: usize)
     jumps[row] = landing(depths, near, far, further) as u16;
 }
 
-// Sets the jumps of all rows, in the order in which the letters bring them, in a table that begins empty.
+// Sets the jumps of all rows, in the order in which the letters bring them, in a table that
+// begins empty.
 pub fn fill_jumps(b: &[u8], ends: &[u16], jumps: &mut [u16])
     requires good { Good b.now }
     requires end_rows { EndRows b.now ends.now }
@@ -55,8 +57,8 @@ pub fn fill_jumps(b: &[u8], ends: &[u16], jumps: &mut [u16])
     }
 }
 
-// From a row with more than n letters to the one that its jump leads to, where that has no fewer, and else
-// to its link.
+// From a row with more than n letters to the one that its jump leads to, where that has no fewer,
+// and else to its link.
 fn closer(b: &[u8], jumps: &[u16], n: usize, row: usize) -> usize
     requires good { Good b.now }
     requires jumps { Jumps b.now jumps.now }
@@ -91,8 +93,8 @@ fn row_by_jumps(b: &[u8], ends: &[u16], jumps: &[u16], start: usize, end: usize)
     }
 }
 
-// The row of the stretch from `start` up to `end`, and 0 where it is no palindrome. In the palindrome at its
-// end a palindrome stands at the other end too, where often none is longer.
+// The row of the stretch from `start` up to `end`, and 0 where it is no palindrome. In the
+// palindrome at its end a palindrome stands at the other end too, where often none is longer.
 pub fn row_of_interval(b: &[u8], ends: &[u16], jumps: &[u16], start: usize, end: usize) -> usize
     requires good { Good b.now }
     requires end_rows { EndRows b.now ends.now }

@@ -1,5 +1,6 @@
-// The minimal unique palindromes of a good store, by where they stand. Each is the longest palindrome at its right end and
-// first met there, so one pass over the rows that are first met has them in the order of their ends, which is that of their starts.
+// The minimal unique palindromes of a good store, by where they stand. Each is the longest
+// palindrome at its right end and first met there, so one pass over the rows that are first met
+// has them in the order of their ends, which is that of their starts.
 #![tactic(auto)]
 
 ghost use Rattle.std.specs.Prelude.{◌≡◌, true, [], ◌∷◌, ◌+◌, ◌≤◌, ◌<◌, length};
@@ -15,7 +16,8 @@ ghost use Rattle.unique_rows.specs.Marks.{Marks};
 use spelling::spelling_length;
 use store::{header, rows};
 
-// Whether a row's palindrome is minimal unique: it stands once only, and its inner row is a root's or stands at least twice.
+// Whether a row's palindrome is minimal unique: it stands once only, and its inner row is a
+// root's or stands at least twice.
 fn is_minimal(b: &[u8], marks: &[u8], row: usize) -> bool
     requires good { Good b.now }
     requires marks { Marks b.now (size_in b.now) marks.now }
@@ -41,7 +43,8 @@ pub fn count_minimal(b: &[u8], firsts: &[u16], marks: &[u8]) -> usize
     total
 }
 
-// Writes a start and an end from the place `at` on, two bytes each, low byte first, and answers the place behind them.
+// Writes a start and an end from the place `at` on, two bytes each, low byte first, and answers
+// the place behind them.
 fn put_interval(out: &mut [u8], at: usize, start: usize, end: usize) -> usize
     requires at_in_bounds { at + 4 ≤ length out.old }
     requires start_bound { (start < 65536) × (end < 65536) }

@@ -25,7 +25,12 @@ turn {b} {firsts} {counts} {n} {i} {total} {row} {x} g f e h s a =
     let long : length front ≡ size_in b = omega (arith, f.long, length-take n firsts) in
     let l : i < length front = omega (arith, h.0, length-reverse front) in
     let k = length front - 1 - i in
-    let is : row ≡ get_or firsts k 0 = s ∙ h.1 ∙ get_or-reverse front i x l ∙ get_or-take n firsts k x (omega arith) ∙ get_or_default_zero firsts k x (omega (arith, f.long)) in
+    let is : row ≡ get_or firsts k 0 =
+    s
+    ∙ h.1
+    ∙ get_or-reverse front i x l
+    ∙ get_or-take n firsts k x (omega arith)
+    ∙ get_or_default_zero firsts k x (omega (arith, f.long)) in
     let place : size_in b - (i + 1) ≡ k = omega arith in
     let more : size_in b - i ≡ k + 1 = omega arith in
     let below : k < size_in b = omega arith in
@@ -55,7 +60,8 @@ overflow_add-total c =
     let s = c.requires in
     let y = YieldsList-from_rev_slice (take c.size.result c.args.firsts.now) cc in
     let t = YieldsList-turn y c.loop-first.yielded _ c.loop-first.yielded_by _ _ c.in-Some.first c.in-Some.is c.next.ensures.steps in
-    let small : c.loop-first.total + handed c.loop-first.counts c.from.result ≤ 524800 = adding-small s.good (turn s.good s.first_rows c.size.ensures.0 t c.from.ensures c.loop-first.invariant).after in
+    let next = turn s.good s.first_rows c.size.ensures.0 t c.from.ensures c.loop-first.invariant in
+    let small : c.loop-first.total + handed c.loop-first.counts c.from.result ≤ 524800 = adding-small s.good next.after in
     omega arith
 
 pub loop-first-preserved : goal.loop-first-preserved

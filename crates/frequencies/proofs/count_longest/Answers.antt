@@ -24,11 +24,13 @@ behind {b} {firsts} rest f =
     record { long = omega (arith, f.long, length-append firsts rest); new = λ k l t. rw (same k l) (f.new k l t); old = λ k l t. rw (same k l) (f.old k l t) }
 
 -- the row at the right end that comes next
-holds_next : {b rows ends counts : Word} {k row : ℕ} → EndRows b rows → Counting b rows k ends counts → k < size_in b → row ≡ get_or ends k 0 → Holds b (k + 1) row
+holds_next : {b rows ends counts : Word} {k row : ℕ} → EndRows b rows → Counting b rows k ends counts → k < size_in b → row ≡ get_or ends k 0
+    → Holds b (k + 1) row
 holds_next {k = k} r c l e = rw (e, c.rest k (omega arith)) (r.each k l)
 
 -- it has a number
-row_inside : {b rows ends counts : Word} {k row : ℕ} → Good b → EndRows b rows → Counting b rows k ends counts → k < size_in b → row ≡ get_or ends k 0 → row < length counts
+row_inside : {b rows ends counts : Word} {k row : ℕ} → Good b → EndRows b rows → Counting b rows k ends counts → k < size_in b → row ≡ get_or ends k 0
+    → row < length counts
 row_inside {row = row} g r c l e = omega (arith, row_below g row (holds_next r c l e).used, c.long)
 
 pub size-n-requires : goal.size-n-requires

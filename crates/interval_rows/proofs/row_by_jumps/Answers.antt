@@ -27,7 +27,8 @@ pub returns-then-spelling_length-n : goal.returns-then-spelling_length-n
 returns-then-spelling_length-n c =
     let s = c.requires in
     let size = between-length s.good c.args.start c.args.end s.start_lt_end.1 in
-    near-found s.good (between_ends s.good c.args.start c.args.end) (omega (arith, size)) (omega (arith, size, c.spelling_length-2.ensures)) c.loop-row.invariant
+    near-found s.good (between_ends s.good c.args.start c.args.end) (omega (arith, size))
+    (omega (arith, size, c.spelling_length-2.ensures)) c.loop-row.invariant
 
 pub returns-else-spelling_length-n : goal.returns-else-spelling_length-n
 returns-else-spelling_length-n c =

@@ -33,7 +33,8 @@ overflow_sub-end c =
     let s = c.requires in
     let n = next_first s.first_rows c.size.ensures.0 c.loop-k-test.true c.from-row.ensures in
     let m = c.is_minimal.ensures ∙ ap (minimal_in c.args.b.now) n.1 in
-    (begins s.good s.first_rows n.0 m c.loop-k.invariant c.if-is_minimal.true (c.spelling_length.ensures ∙ ap (λ (r : ℕ). length (spelling_of (node_in c.args.b.now r))) n.1)).1
+    let long = c.spelling_length.ensures ∙ ap (λ (r : ℕ). length (spelling_of (node_in c.args.b.now r))) n.1 in
+    (begins s.good s.first_rows n.0 m c.loop-k.invariant c.if-is_minimal.true long).1
 
 pub put_interval-at-requires-clause-at_in_bounds : goal.put_interval-at-requires-clause-at_in_bounds
 put_interval-at-requires-clause-at_in_bounds c =
