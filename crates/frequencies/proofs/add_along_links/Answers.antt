@@ -1,4 +1,4 @@
-use Rattle.std.proofs.Common.{◌≡◌, ℕ, ◌+◌, ◌-◌, ◌<◌, ◌≤◌, length, get_or, take, reverse, ◌∙◌, arith}
+use Rattle.std.proofs.Common.{◌≡◌, ℕ, ◌+◌, ◌-◌, ◌<◌, ◌≤◌, length, get_or, take, reverse, ◌∙◌, Fits, w64, arith}
 use Rattle.std.proofs.lemmas.Grind.{get_or_default_zero}
 use Rattle.std.proofs.lemmas.Iterator.Adapters.{YieldsList-from_rev_slice}
 use Rattle.std.proofs.lemmas.Iterator.Consumers.{YieldsList-turn, YieldsList-end}
@@ -40,6 +40,10 @@ turn {b} {firsts} {counts} {n} {i} {total} {row} {x} g f e h s a =
 none-left : {b firsts : Word} {n i : ℕ} → FirstRows b firsts → n ≡ size_in b → i ≡ length (reverse (take n firsts)) → size_in b - i ≡ 0
 none-left {firsts = firsts} {n} f e h = omega (arith, f.long, length-take n firsts, length-reverse (take n firsts))
 
+-- the sum so far
+small-fits : {n : ℕ} → n ≤ 524800 → Fits w64 n
+small-fits h = omega arith
+
 pub size-requires : goal.size-requires
 size-requires c = header-fits c.requires.good.sized
 
@@ -60,9 +64,7 @@ overflow_add-total c =
     let s = c.requires in
     let y = YieldsList-from_rev_slice (take c.size.result c.args.firsts.now) cc in
     let t = YieldsList-turn y c.loop-first.yielded _ c.loop-first.yielded_by _ _ c.in-Some.first c.in-Some.is c.next.ensures.steps in
-    let next = turn s.good s.first_rows c.size.ensures.0 t c.from.ensures c.loop-first.invariant in
-    let small : c.loop-first.total + handed c.loop-first.counts c.from.result ≤ 524800 = adding-small s.good next.after in
-    omega arith
+    rw c.hand_on-total.ensures.0 (small-fits (adding-small s.good (turn s.good s.first_rows c.size.ensures.0 t c.from.ensures c.loop-first.invariant).after))
 
 pub loop-first-preserved : goal.loop-first-preserved
 loop-first-preserved c =
