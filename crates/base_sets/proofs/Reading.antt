@@ -6,13 +6,13 @@ use mathlib.Core.Path.{◌≡◌, refl, sym, ap, ◌∙◌}
 use mathlib.Core.Bool.{true, false, not}
 use mathlib.Core.List.{List, [], ◌∷◌, ◌++◌, map, map-append}
 use lib.ListN.{length, get_or, take, set, length-set}
-use lib.Seq.{take-length, take-suc, take-suc-set}
+use lib.Seq.{take-suc, take-suc-set}
 use borrow.Author.Tests.{eq-eqb, ne_eqb}
 use Rattle.palindromes.specs.Word.{Word}
 use Rattle.palindromes.proofs.Tests.{both_true, both-are, not-true-false, false-not-true}
 use Rattle.ambiguity.specs.Code.{set_of, is_code, all_codes, is_certain, number_of_bases}
 use Rattle.ambiguity.specs.Facing.{certain_set_of}
-use Rattle.base_sets.specs.Sets.{certain_of, SetsRead}
+use Rattle.base_sets.specs.Sets.{certain_of}
 use Rattle.ambiguity.proofs.Codes.{code-set}
 use Rattle.ambiguity.proofs.Choices.{code_at}
 
@@ -24,11 +24,6 @@ place_read : (f : ℕ → ℕ) (text buf : List ℕ) (i v : ℕ) → i < length 
 place_read f text buf i v l m e h =
     rw add-one
     (take-suc-set buf i v (omega arith) ∙ cc (h, e, map-append f (take i text) (get_or text i 0 ∷ [])) ∙ ap (map f) (sym (take-suc text i 0 l)))
-
--- the whole text
-all_read : (f : ℕ → ℕ) (text buf : List ℕ) (i : ℕ) → i ≡ length text → take i buf ≡ map f (take i text)
-    → take (length text) buf ≡ map f text
-all_read f text buf i e h = ap (λ (k : ℕ). take k buf) (sym e) ∙ h ∙ ap (λ (k : ℕ). map f (take k text)) e ∙ ap (map f) (take-length text)
 
 -- ---- codes
 
@@ -86,10 +81,3 @@ module _ (text sets₀ certain₀ sets certain : List ℕ) (i : ℕ) (r : Read t
             place_read certain_set_of text certain i v l (omega (arith, r.certain-length)) (f ∙ certain-is (get_or text i 0) m e) r.certain-so-far;
         codes-so-far = codes-read text i l r.codes-so-far (is-code (get_or text i 0) m e n);
       }
-
-  pub whole-read : length text ≤ i → (true ≡ all_codes text) × SetsRead text sets certain
-  whole-read h =
-      let e : i ≡ length text = omega (arith, r.so_far) in (
-        sym (sym (ap all_codes (ap (λ (k : ℕ). take k text) e ∙ take-length text)) ∙ r.codes-so-far),
-        record { sets-read = all_read set_of text sets i e r.sets-so-far; certain-read = all_read certain_set_of text certain i e r.certain-so-far },
-      )

@@ -8,8 +8,8 @@ use mathlib.Core.List.{List}
 use lib.Bits.{bit_and}
 use lib.ListN.{length, get_or}
 use Rattle.ambiguity.specs.Facing.{Meet}
-use Rattle.facing_sets.specs.Facing.{Facing, Reached, LongestFacing}
-use Rattle.facing_sets.specs.Search.{Within, Centre, Radius, Tried, MaximalRadius, Best, Better, Longest}
+use Rattle.facing_sets.specs.Facing.{Facing, Reached}
+use Rattle.facing_sets.specs.Search.{Within, Centre, Radius, Tried, MaximalRadius, Best, Better}
 use Rattle.facing_sets.specs.declared.Lengths.{Lengths}
 
 -- ---- a centre
@@ -135,9 +135,6 @@ module _ (sets certain : List ℕ) (left right room : ℕ) (w : Within certain s
 pub record Passed (sets : List ℕ) (t r : ℕ) : Type 0 where
   pub passed : (a e : ℕ) → a ≤ e → e ≤ length sets → length sets < a + e + t → a + e < length sets + t → Facing sets a e → e - a ≤ r
 
-pub none_passed : (sets : List ℕ) (r : ℕ) → Passed sets 0 r
-none_passed sets r = record { passed = λ a e l f g h p. absurd (omega arith) }
-
 two-passed : (sets : List ℕ) (t x y r s q : ℕ) → x ≡ length sets - t → y ≡ length sets + t → t ≤ length sets → r ≤ s → s ≤ q
     → Passed sets t r → Tried sets x s → Tried sets y q → Passed sets (t + 1) q
 two-passed sets t x y r s q ex ey lt rs sq p tx ty =
@@ -149,19 +146,6 @@ two-passed sets t x y r s q ex ey lt rs sq p tx ty =
     go a e l f g h o (no m) (yes n) = ty a e l f n o
     go a e l f g h o (no m) (no n) = omega (arith, p.passed a e l f (omega arith) (omega arith) o)
 
-pub all-passed : (sets : List ℕ) (t r : ℕ) → length sets ≤ r + t → Reached sets r → Passed sets t r → LongestFacing sets r
-all-passed sets t r h q p =
-    record { reached = q; most = λ a e l f o. go a e l f o (dec_lt (length sets) (a + e + t)) (dec_lt (a + e) (length sets + t)) }
-  where
-    go : (a e : ℕ) → a ≤ e → e ≤ length sets → Facing sets a e → Dec (length sets < a + e + t) → Dec (a + e < length sets + t) → e - a ≤ r
-    go a e l f o (yes m) (yes n) = p.passed a e l f m n o
-    go a e l f o (yes m) (no n) = omega arith
-    go a e l f o (no m) d = omega arith
-
--- nothing at all is reached with length 0
-none-reached : (sets : List ℕ) → Reached sets 0
-none-reached sets = record { start = 0; fits = omega arith; facing = λ i j l m e. absurd (omega arith) }
-
 -- what a turn leaves, after the two centres t half places from the middle
 pub turned : (sets certain : List ℕ) (w : Within certain sets) (t x y : ℕ) (b q r : Lengths) → x ≡ length sets - t → y ≡ length sets + t
     → t < length sets → Passed sets t b.some × Passed certain t b.every → Better sets certain x b q → Better sets certain y q r
@@ -172,15 +156,3 @@ turned sets certain w t x y b q r before after h p m n =
       two-passed certain t x y b.every q.every r.every (omega arith) (omega arith) (omega arith) m.every_more n.every_more p.1
           m.every-tried n.every-tried,
     )
-
--- and the end
-pub finished : (sets certain : List ℕ) (w : Within certain sets) (t : ℕ) (b : Lengths) → length sets ≤ b.every + t → Best sets certain b
-    → Passed sets t b.some → Passed certain t b.every → Longest sets certain b
-finished sets certain w t b h best p q =
-    record {
-      some-longest = all-passed sets t b.some (omega (arith, best.ordered)) best.some-reached p;
-      every-longest = all-passed certain t b.every (omega (arith, w.same_length)) best.every-reached q;
-    }
-
-pub no-best : (sets certain : List ℕ) → Best sets certain (record { some = 0; every = 0 })
-no-best sets certain = record { some-reached = none-reached sets; every-reached = none-reached certain; ordered = omega arith }

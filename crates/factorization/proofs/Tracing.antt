@@ -1,12 +1,15 @@
 -- The ends of the factors, traced back from the last one. Those up to an end are those up to where its factor begins, and the end itself
 -- (`ends-back`); so each may be written in front of those that stand already, and `Traced` says what is left to write. Rests on `ends-step` and
 -- `ends-agree` of palindromes and on `sets_last` of decimal.
-use Prim.Native.Nat.{ℕ, ◌+◌, ◌*◌, ◌-◌, ◌/◌, ◌%◌, ◌≤◌, ◌<◌}
+use Prim.Native.Nat.{ℕ, suc, ◌+◌, ◌*◌, ◌-◌, ◌/◌, ◌%◌, ◌≤◌, ◌<◌}
 use native.Mathlib.Omega.{arith}
 use mathlib.Core.Path.{◌≡◌, refl, sym, ap, ◌∙◌}
 use mathlib.Core.List.{List, [], ◌∷◌, ◌++◌, append_assoc}
-use lib.ListN.{length, get_or, set, take, length-append, length-set, length-take}
-use lib.Seq.{sets}
+use lib.ListN.{length, get_or, set, take, drop, length-append, length-set, length-take}
+use lib.Seq.{sets, sets-eq, drop-drop, set_comm}
+use borrow.Rule.Slice.PartMut.{put_mid}
+use native.Mathlib.Numerals.{add-one}
+use Rattle.std.specs.Int.{w16, to_le_bytes}
 use Rattle.palindromes.specs.Word.{Word}
 use Rattle.palindromes.specs.Interval.{two_bytes}
 use Rattle.palindromes.specs.Factorization.{palindromic_lengths, palindromic_length, ends_to, factor_ends, end_bytes}
@@ -20,6 +23,19 @@ use Rattle.store.proofs.Sizes.{letters-length}
 use Rattle.last_factor.specs.Kept.{start_in}
 use Rattle.factorization.specs.LastStarts.{LastStarts}
 use Rattle.factorization.proofs.Filling.{own-partner}
+
+-- the two bytes of a number, written in their order, stand as if the high one had been stored first
+pub two-stored : {u : Word} (l : Word) (at n : ℕ) → at + 2 ≤ length l → n < 65536 → u ≡ to_le_bytes w16 n
+    → put_mid at (at + 2 - at) l u ≡ set (set l (at + 1) (n / 256)) at (n % 256)
+two-stored {u} l at n h s e =
+    let k = at + 2 - at in
+    let high : n / 256 % 256 ≡ n / 256 = omega arith in
+    let bytes : u ≡ n % 256 ∷ n / 256 ∷ [] = e ∙ ap (λ (x : ℕ). n % 256 ∷ x ∷ []) high in
+    let two : length u ≡ 2 = ap length bytes in
+    let size : length u ≡ k = omega arith in
+    let whole = sets-eq u l at (omega arith) ∙ append_assoc (take at l) u (drop (at + length u) l) in
+    let part : put_mid at k l u ≡ sets l at u = rw (drop-drop, ← size) (sym whole) in
+    part ∙ ap (sets l at) bytes ∙ rw add-one (set_comm l at (suc at) (n % 256) (n / 256) (λ e. omega arith))
 
 -- where the factor that ends at a place begins, by the list
 abbrev before : Word → ℕ → ℕ

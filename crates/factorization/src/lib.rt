@@ -1,5 +1,6 @@
-// The factorization of a record into the fewest palindromes: for each right end how many there are of the letters up to it, and where
-// the last of them begins; and their ends, traced back from the last one.
+// The factorization of a record into the fewest palindromes: for each right end how many there
+// are of the letters up to it, and where the last of them begins; and their ends, traced back
+// from the last one.
 #![tactic(auto)]
 
 ghost use Rattle.std.specs.Prelude.{◌≡◌, ◌+◌, ◌*◌, ◌≤◌, length, replicate};
@@ -16,8 +17,8 @@ use end_rows::rows_at_ends;
 use last_factor::last_factor;
 use store::header;
 
-// For each right end the fewest factors of the letters up to it, and where the last of them begins in place of the end's row. Answers
-// how many series were passed.
+// For each right end the fewest factors of the letters up to it, and where the last of them
+// begins in place of the end's row. Answers how many series were passed.
 fn fill(b: &[u8], lasts: &mut [u16], factors: &mut [u16], memos: &mut [u32]) -> usize
     requires good { Good b.now }
     requires b_value { (reading_in b.now ≡ 0) × EndRows b.now lasts.old }
@@ -27,16 +28,12 @@ fn fill(b: &[u8], lasts: &mut [u16], factors: &mut [u16], memos: &mut [u32]) -> 
     ensures steps { result ≡ series_steps (rule_of b.now) (letters_in b.now) }
     ensures few { result ≤ size_in b.now * most_series }
 {
-    let n = header::size(b);
-    let mut k = 0;
     let mut steps = 0;
-    while k < n {
-        let found = last_factor(b, k + 1, lasts[k] as usize, factors, memos);
-        let start = found.start;
+    for k in 0..header::size(b) {
+        let found = last_factor(b, k + 1, usize::from(lasts[k]), factors, memos);
         steps += found.turns;
-        lasts[k] = start as u16;
-        k += 1;
-        factors[k] = factors[start] + 1;
+        lasts[k] = found.start as u16;
+        factors[k + 1] = factors[found.start] + 1;
     }
     steps
 }
@@ -48,7 +45,8 @@ pub struct Factors {
     pub steps: usize,
 }
 
-// For each right end where the last factor of the letters up to it begins. Answers how many factors the whole record has.
+// For each right end where the last factor of the letters up to it begins. Answers how many
+// factors the whole record has.
 pub fn factorize(b: &[u8], lasts: &mut [u16]) -> Factors
     requires good { Good b.now × (reading_in b.now ≡ 0) }
     requires b_in_bounds { size_in b.now ≤ length lasts.old }
@@ -61,11 +59,12 @@ pub fn factorize(b: &[u8], lasts: &mut [u16]) -> Factors
     let mut factors = [0u16; 1025];
     let mut memos = [0u32; 1026];
     let steps = fill(b, lasts, &mut factors, &mut memos);
-    let number = factors[header::size(b)] as usize;
+    let number = usize::from(factors[header::size(b)]);
     Factors { number, steps }
 }
 
-// Writes the ends of the factors at the front of the buffer, two bytes each, low byte first. They are traced back from the last one.
+// Writes the ends of the factors at the front of the buffer, two bytes each, low byte first. They
+// are traced back from the last one.
 pub fn put_ends(b: &[u8], lasts: &[u16], number: usize, out: &mut [u8])
     requires good { Good b.now × (reading_in b.now ≡ 0) }
     requires last_starts { LastStarts b.now (size_in b.now) lasts.now }
@@ -76,8 +75,7 @@ pub fn put_ends(b: &[u8], lasts: &[u16], number: usize, out: &mut [u8])
     let mut end = header::size(b);
     while 0 < end {
         at -= 2;
-        out[at + 1] = (end / 256) as u8;
-        out[at] = (end % 256) as u8;
-        end = lasts[end - 1] as usize;
+        out[at..at + 2].copy_from_slice(&(end as u16).to_le_bytes());
+        end = usize::from(lasts[end - 1]);
     }
 }

@@ -1,5 +1,6 @@
-// How often each palindrome stands. First it is counted how often each is the longest at a right end; then the number of each row is
-// added to that of its link, backwards in the order in which the rows were met, so that a row has its whole number before it is handed on.
+// How often each palindrome stands. First it is counted how often each is the longest at a right
+// end; then the number of each row is added to that of its link, backwards in the order in which
+// the rows were met, so that a row has its whole number before it is handed on.
 #![tactic(auto)]
 
 ghost use Rattle.std.specs.Prelude.{◌≡◌, replicate};
@@ -13,8 +14,8 @@ ghost use Rattle.frequencies.specs.Counts.{HandedFrom, Handable, handed, handed_
 use store::rows::Row;
 use store::{header, rows};
 
-// Counts at each row the right ends at which its palindrome is the longest, and leaves at each right end the row that is
-// first met there, or a root's.
+// Counts at each row the right ends at which its palindrome is the longest, and leaves at each
+// right end the row that is first met there, or a root's.
 fn count_longest(b: &[u8], ends: &mut [u16], counts: &mut [u16])
     requires good { Good b.now }
     requires end_rows { EndRows b.now ends.old }
@@ -23,15 +24,13 @@ fn count_longest(b: &[u8], ends: &mut [u16], counts: &mut [u16])
     ensures counted { HandedFrom b.now (size_in b.now) counts.new }
 {
     let n = header::size(b);
-    let mut k = 0;
-    while k < n {
-        let row = ends[k] as usize;
+    for end in ends[..n].iter_mut() {
+        let row = usize::from(*end);
         let count = counts[row];
         if count != 0 {
-            ends[k] = 0;
+            *end = 0;
         }
         counts[row] = count + 1;
-        k += 1;
     }
 }
 
@@ -52,7 +51,8 @@ fn hand_on(b: &[u8], counts: &mut [u16], row: usize) -> usize
     count as usize
 }
 
-// Makes each number the frequency of its row, from the last row met to the first, and answers their sum.
+// Makes each number the frequency of its row, from the last row met to the first, and answers
+// their sum.
 fn add_along_links(b: &[u8], firsts: &[u16], counts: &mut [u16]) -> usize
     requires good { Good b.now }
     requires first_rows { FirstRows b.now firsts.now }
@@ -61,10 +61,8 @@ fn add_along_links(b: &[u8], firsts: &[u16], counts: &mut [u16]) -> usize
     ensures total { result ≡ occurrences_by_row (rule_of b.now) (letters_in b.now) }
 {
     let mut total = 0;
-    let mut k = header::size(b);
-    while 0 < k {
-        k -= 1;
-        total += hand_on(b, counts, firsts[k] as usize);
+    for first in firsts[..header::size(b)].iter().rev() {
+        total += hand_on(b, counts, usize::from(*first));
     }
     total
 }

@@ -2,7 +2,7 @@
 -- (`below-link`), so whatever jumps are put together of links and jumps lie below their rows (`jumps-set`). A step keeps what `Near` says: along a jump since
 -- of two ends of one word the shorter ends the longer (`near-far`), along a link since it is the longest (`near-link`). Rests on the laws of ends of words, on
 -- `longest-suffix` and on the laws of a good store's rows. Assumes nothing.
-use Rattle.std.proofs.Common.{◌≡◌, ℕ, ◌-◌, ◌<◌, ◌≤◌, true, ◌⊎◌, [], ◌∷◌, length, get_or, take, set, replicate, sym, refl, ap, ◌∙◌, subst, ⊎_elim, arith, length-drop, length-set, take-append-drop, length-take, get_or-set_other, get_or-set_same}
+use Rattle.std.proofs.Common.{◌≡◌, ℕ, ◌+◌, ◌-◌, ◌<◌, ◌≤◌, true, ◌⊎◌, [], ◌∷◌, length, get_or, take, set, replicate, sym, refl, ap, ◌∙◌, subst, ⊎_elim, arith, length-drop, length-set, take-append-drop, length-take, get_or-set_other, get_or-set_same}
 use native.Mathlib.Decide.{ℕ_discrete}
 use lib.ListN.{length-replicate, get_or-replicate}
 use Rattle.palindromes.specs.Word.{Word}
@@ -18,6 +18,7 @@ use Rattle.store.specs.Good.{rule_of, node_in, Good}
 use Rattle.store.proofs.Sizes.{letters-length}
 use Rattle.transitions.proofs.Rows.{covers, row_below}
 use Rattle.walk.specs.Replay.{ending_in, Holds}
+use Rattle.end_rows.specs.EndRows.{EndRows}
 use Rattle.interval_rows.specs.IntervalRow.{word_in, word_between, RowOf, found, none, Below, Jumps, Near, Leads}
 
 -- ---- words
@@ -41,6 +42,13 @@ unfolding link_of spelling_of
 link-most σ imaginary w p l s = absurd (omega (arith, l))
 link-most σ (spelt []) w p l s = absurd (omega (arith, l))
 link-most σ (spelt (x ∷ t)) w p l s = ⊎_elim (λ e. absurd (omega (arith, l, ap length e))) ((longest-suffix σ t).most w p) (suffix-of-cons x s)
+
+-- ---- the row at the stretch's end
+
+pub row-at-end : {b ends : Word} {start end row : ℕ} → EndRows b ends → start < end → end ≤ size_in b → row ≡ get_or ends (end - 1) 0 → Holds b end row
+row-at-end {b} {ends} {end = end} r l h e =
+    let k : end - 1 + 1 ≡ end = omega arith in
+    rw e (subst (λ (i : ℕ). Holds b i (get_or ends (end - 1) 0)) k (r.each (end - 1) (omega arith)))
 
 -- ---- below
 
@@ -70,6 +78,13 @@ module _ {b : Word} (g : Good b) where
         long = ap length z ∙ length-replicate {A = ℕ} 1026 0;
         each = λ r u. subst (Below b r) (sym (ap (λ (l : Word). get_or l r 0) z ∙ get_or-replicate 1026 r 0 0 (row_below g r u))) (below_root r);
       }
+
+  -- a row's link and its jump are rows in use, so that there is a place for each
+  pub link-used : (row : ℕ) {near : ℕ} → used_in b row ≡ true → near ≡ link_in b row → (used_in b near ≡ true) × (near < 1026)
+  link-used row {near} u e = let v : used_in b near ≡ true = rw e (below-link row u).used in (v, row_below g near v)
+
+  pub jump-used : {jumps : Word} (row : ℕ) {far : ℕ} → Jumps b jumps → used_in b row ≡ true → far ≡ get_or jumps row 0 → (used_in b far ≡ true) × (far < 1026)
+  jump-used row {far} j u e = let v : used_in b far ≡ true = rw e (j.each row u).used in (v, row_below g far v)
 
   -- a row's jump goes to its link, or to the jump of the link's jump
   pub jumps-set : {jumps : Word} (row near far further to : ℕ) → Jumps b jumps → used_in b row ≡ true → near ≡ link_in b row

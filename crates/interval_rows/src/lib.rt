@@ -1,7 +1,8 @@
-// The row of a stretch of the letters: from the row of the longest palindrome that ends where the stretch
-// ends, down the links to one that is as long. Besides its link each row has a jump to a row further
-// down, so that the way has a number of steps in the order of the logarithm of the chain's length (Myers,
-// An applicative random-access stack, 1983). Which jumps there are matters to the time alone.
+// The row of a stretch of the letters: from the row of the longest palindrome that ends where the
+// stretch ends, down the links to one that is as long. Besides its link each row has a jump to a
+// row further down, so that the way has a number of steps in the order of the logarithm of the
+// chain's length (Myers, An applicative random-access stack, 1983). Which jumps there are matters
+// to the time alone.
 #![tactic(auto)]
 
 ghost use Rattle.std.specs.Prelude.{◌≡◌, ◌<◌, ◌≤◌, true, ◌⊎◌, length, replicate};
@@ -14,24 +15,15 @@ use spelling::spelling_length;
 use store::rows::Row;
 use store::{header, rows};
 
-fn wide(x: u16) -> usize
-    ensures { (result ≡ x) × (result < 65536) }
-{
-    x as usize
-}
-
-// Where a row's jump goes, by the depths of its link, of that one's jump and of the jump's jump: past both
-// if they are equally far, and else to the link.
+// Where a row's jump goes, by the depths of its link, of that one's jump and of the jump's jump:
+// past both if they are equally far, and else to the link.
 fn landing(depths: &[u16], near: usize, far: usize, further: usize) -> usize
     requires { (near < length depths.now) × (far < length depths.now) × (further < length depths.now) }
     ensures { (result ≡ near) ⊎ (result ≡ further) }
 {
-    let first = std::num::wrapping_sub_u16(depths[near], depths[far]);
-    let second = std::num::wrapping_sub_u16(depths[far], depths[further]);
-    if first == second {
-        return further;
-    }
-    near
+    let first = depths[near].wrapping_sub(depths[far]);
+    let second = depths[far].wrapping_sub(depths[further]);
+    if first == second { further } else { near }
 }
 
 // Sets the jump of a row whose link has one.
@@ -45,28 +37,14 @@ fn set_jump(b: &[u8], jumps: &mut [u16], depths: &mut [u16], row: usize)
         return;
     }
     let near = rows::link_of(b, row);
-    let far = wide(jumps[near]);
-    let further = wide(jumps[far]);
-    depths[row] = std::num::wrapping_add_u16(depths[near], 1);
+    let far = usize::from(jumps[near]);
+    let further = usize::from(jumps[far]);
+    depths[row] = depths[near].wrapping_add(1);
     jumps[row] = landing(depths, near, far, further) as u16;
 }
 
-// Sets the jumps of all rows, in the order in which the letters bring them, with tables that begin empty.
-fn set_jumps(b: &[u8], ends: &[u16], jumps: &mut [u16], depths: &mut [u16])
-    requires good { Good b.now }
-    requires end_rows { EndRows b.now ends.now }
-    requires jumps_value { (jumps.old ≡ replicate 1026 0) × (length depths.old ≡ 1026) }
-    ensures { Jumps b.now jumps.new }
-{
-    let n = header::size(b);
-    let mut k = 0;
-    while k < n {
-        set_jump(b, jumps, depths, wide(ends[k]));
-        k += 1;
-    }
-}
-
-// The same with depths of its own.
+// Sets the jumps of all rows, in the order in which the letters bring them, in a table that
+// begins empty.
 pub fn fill_jumps(b: &[u8], ends: &[u16], jumps: &mut [u16])
     requires good { Good b.now }
     requires end_rows { EndRows b.now ends.now }
@@ -74,22 +52,25 @@ pub fn fill_jumps(b: &[u8], ends: &[u16], jumps: &mut [u16])
     ensures { Jumps b.now jumps.new }
 {
     let mut depths = [0u16; 1026];
-    set_jumps(b, ends, jumps, &mut depths);
+    for end in &ends[..header::size(b)] {
+        set_jump(b, jumps, &mut depths, usize::from(*end));
+    }
 }
 
-// From a row with more than n letters to the one that its jump leads to, where that has no fewer, and else
-// to its link.
+// From a row with more than n letters to the one that its jump leads to, where that has no fewer,
+// and else to its link.
 fn closer(b: &[u8], jumps: &[u16], n: usize, row: usize) -> usize
     requires good { Good b.now }
     requires jumps { Jumps b.now jumps.now }
     requires row_value { (used_in b.now row ≡ true) × (n < length (word_in b.now row)) }
     ensures { Leads b.now n row result }
 {
-    let far = wide(jumps[row]);
+    let far = usize::from(jumps[row]);
     if n <= spelling_length(b, far) {
-        return far;
+        far
+    } else {
+        rows::link_of(b, row)
     }
-    rows::link_of(b, row)
 }
 
 // The row of a stretch from the row at its end on, and 0 where it is no palindrome.
@@ -101,18 +82,19 @@ fn row_by_jumps(b: &[u8], ends: &[u16], jumps: &[u16], start: usize, end: usize)
     ensures { RowOf b.now (word_between b.now start end) result }
 {
     let n = end - start;
-    let mut row = wide(ends[end - 1]);
+    let mut row = usize::from(ends[end - 1]);
     while n < spelling_length(b, row) {
         row = closer(b, jumps, n, row);
     }
     if spelling_length(b, row) == n {
-        return row;
+        row
+    } else {
+        Row::IMAGINARY
     }
-    Row::IMAGINARY
 }
 
-// The row of the stretch from `start` up to `end`, and 0 where it is no palindrome. In the palindrome at its
-// end a palindrome stands at the other end too, where often none is longer.
+// The row of the stretch from `start` up to `end`, and 0 where it is no palindrome. In the
+// palindrome at its end a palindrome stands at the other end too, where often none is longer.
 pub fn row_of_interval(b: &[u8], ends: &[u16], jumps: &[u16], start: usize, end: usize) -> usize
     requires good { Good b.now }
     requires end_rows { EndRows b.now ends.now }
@@ -121,10 +103,11 @@ pub fn row_of_interval(b: &[u8], ends: &[u16], jumps: &[u16], start: usize, end:
     ensures { RowOf b.now (word_between b.now start end) result }
 {
     let n = end - start;
-    let m = spelling_length(b, wide(ends[end - 1]));
+    let m = spelling_length(b, usize::from(ends[end - 1]));
     if m < n {
-        return Row::IMAGINARY;
+        Row::IMAGINARY
+    } else {
+        let from = end - m;
+        row_by_jumps(b, ends, jumps, from, from + n)
     }
-    let from = end - m;
-    row_by_jumps(b, ends, jumps, from, from + n)
 }

@@ -1,7 +1,9 @@
-// Where the last of the fewest palindromes begins that the letters up to a right end can be cut into. The palindromes that end there
-// are met by series: along the links from a row the lengths fall by the same difference, and the places at which those of the series
-// begin are, but for the last, those of the series of the row's link at an earlier end. So the choice among them is kept with each
-// row, with the place at which the series begins, and taken up again where that place and the difference are the same.
+// Where the last of the fewest palindromes begins that the letters up to a right end can be cut
+// into. The palindromes that end there are met by series: along the links from a row the lengths
+// fall by the same difference, and the places at which those of the series begin are, but for the
+// last, those of the series of the row's link at an earlier end. So the choice among them is kept
+// with each row, with the place at which the series begins, and taken up again where that place
+// and the difference are the same.
 #![tactic(auto)]
 
 ghost use Rattle.std.specs.Prelude.{◌≡◌, ◌+◌, ◌-◌, ◌≤◌, ◌<◌, length, get_or};
@@ -15,8 +17,9 @@ ghost use Rattle.last_factor.specs.Kept.{EndsAt};
 use store::rows::Row;
 use store::{cells, rows};
 
-// What is kept with a row of its series: the place at which it begins plus one, the row after it, and the chosen place. They stand in
-// one number, since three lists would take half as much stack again.
+// What is kept with a row of its series: the place at which it begins plus one, the row after it,
+// and the chosen place. They stand in one number, since three lists would take half as much stack
+// again.
 fn memo_of(begin: usize, next: usize, place: usize) -> u32
     requires { (begin < 2048) × (next < 2048) × (place < 1024) }
     ensures { result ≡ memo begin next place }
@@ -51,10 +54,7 @@ fn better_of(factors: &[u16], a: usize, q: usize) -> usize
     requires { (a < length factors.now) × (q < length factors.now) }
     ensures { result ≡ better (λ p. get_or factors.now p 0) a q }
 {
-    if factors[q] < factors[a] {
-        return q;
-    }
-    a
+    if factors[q] < factors[a] { q } else { a }
 }
 
 // The chosen place of a series, and the row after it.
@@ -64,7 +64,8 @@ struct Series {
     next: usize,
 }
 
-// The series of a row whose palindrome ends at i: that of its link, as far as it is kept, and one place more, or else the row alone.
+// The series of a row whose palindrome ends at i: that of its link, as far as it is kept, and one
+// place more, or else the row alone.
 fn jump(b: &[u8], i: usize, row: usize, factors: &[u16], memos: &[u32]) -> Series
     requires good { Good b.now }
     requires ends_at { EndsAt b.now i row }
@@ -102,8 +103,9 @@ pub struct LastFactor {
     pub turns: usize,
 }
 
-// Where the last factor of the first i letters begins, from the row of the longest palindrome that ends them. A choice is kept with
-// the first row of each series, and none is missing where it is asked for, so there are as many turns as series.
+// Where the last factor of the first i letters begins, from the row of the longest palindrome
+// that ends them. A choice is kept with the first row of each series, and none is missing where
+// it is asked for, so there are as many turns as series.
 pub fn last_factor(
     b: &[u8],
     i: usize,
@@ -123,9 +125,10 @@ pub fn last_factor(
     let mut start = i + 1 - cells::get(b, longest, 0);
     let mut turns = 0;
     while Row::EMPTY < row {
-        let s = jump(b, i, row, factors, memos);
-        let chosen = s.place;
-        let next = s.next;
+        let Series {
+            place: chosen,
+            next,
+        } = jump(b, i, row, factors, memos);
         memos[row] = memo_of(i + 2 - cells::get(b, row, 0), next, chosen);
         start = better_of(factors, start, chosen);
         row = next;

@@ -7,6 +7,7 @@ use mathlib.Core.Bool.{Bool, true, false}
 use mathlib.Core.List.{List, [], ◌∷◌, ◌++◌}
 use lib.ListN.{length, get_or, take, length-append}
 use borrow.Author.Tests.{not-false}
+use Rattle.std.proofs.lemmas.List.{get_or-take, length-take}
 use Rattle.palindromes.specs.Word.{Word}
 use Rattle.palindromes.specs.Place.{stands}
 use Rattle.palindromes.specs.Node.{Node, spelling_of}
@@ -22,6 +23,15 @@ use Rattle.transitions.proofs.Rows.{used-root}
 use Rattle.walk.specs.Replay.{ending_in, new_at, Holds}
 use Rattle.end_rows.specs.EndRows.{FirstRows}
 use Rattle.minimal_unique.proofs.Rows.{minimal_in, root-not}
+
+-- the right end that comes next is one of the record, and the row that is first met there
+pub next_first : {b firsts : Word} {n k row : ℕ} → FirstRows b firsts → n ≡ size_in b → k < length (take n firsts) → row ≡ get_or (take n firsts) k 0
+    → (k < size_in b) × (row ≡ get_or firsts k 0)
+next_first {firsts = firsts} {n} {k} f e h i = let l : k < n = omega (arith, h, length-take n firsts) in (omega arith, i ∙ get_or-take n firsts k 0 l)
+
+-- none is left
+pub none-next : {b firsts : Word} {n k : ℕ} → FirstRows b firsts → n ≡ size_in b → k ≡ length (take n firsts) → k ≡ size_in b
+none-next {firsts = firsts} {n} f e h = omega (arith, f.long, length-take n firsts)
 
 -- those of the first k right ends
 abbrev pub listed_to : Word → ℕ → List Interval

@@ -1,12 +1,14 @@
 -- The bytes of the minimal unique palindromes, right end by right end: what is written for the first k right ends, `Written`, and for one more. Rests
 -- on `Ends`.
-use Prim.Native.Nat.{ℕ, suc, ◌+◌, ◌*◌, ◌-◌, ◌/◌, ◌%◌, ◌≤◌, ◌<◌}
+use Prim.Native.Nat.{ℕ, ◌+◌, ◌*◌, ◌-◌, ◌/◌, ◌%◌, ◌≤◌, ◌<◌}
 use native.Mathlib.Omega.{arith}
 use mathlib.Core.Path.{◌≡◌, refl, sym, ap, ◌∙◌}
 use mathlib.Core.Bool.{Bool, true, false}
-use mathlib.Core.List.{List, [], ◌∷◌, ◌++◌}
-use lib.ListN.{length, get_or, set}
-use lib.Seq.{sets, length-sets}
+use mathlib.Core.List.{List, [], ◌∷◌, ◌++◌, append_assoc}
+use borrow.Rule.Slice.PartMut.{put_mid}
+use lib.ListN.{length, get_or, take, drop}
+use lib.Seq.{sets, length-sets, sets-eq, drop-drop}
+use Rattle.std.specs.Int.{w16, to_le_bytes}
 use Rattle.palindromes.specs.Word.{Word}
 use Rattle.palindromes.specs.Node.{spelling_of}
 use Rattle.palindromes.specs.Interval.{Interval, interval, two_bytes, interval_bytes}
@@ -22,16 +24,30 @@ use Rattle.end_rows.specs.EndRows.{FirstRows}
 use Rattle.minimal_unique.proofs.Rows.{minimal_in}
 use Rattle.minimal_unique.proofs.Ends.{listed_to, listed-old, listed-new, one_more, listed-most, first_holds}
 
--- four bytes, stored one after the other
-pub four-stored : (l : Word) (at start end : ℕ)
-    → set (set (set (set l at (start % 256)) (at + 1) (start / 256)) (at + 2) (end % 256)) (at + 3) (end / 256)
-    ≡ sets l at (interval_bytes (interval start end ∷ []))
+-- a part of the buffer, written anew
+written-part : (l u : Word) (at k : ℕ) → at + k ≤ length l → length u ≡ k → put_mid at k l u ≡ sets l at u
+written-part l u at k h e = rw (drop-drop, ← e) (sym (sets-eq u l at (omega (arith, h, e)) ∙ append_assoc (take at l) u (drop (at + length u) l)))
+
+-- the bytes of a number that has no more than two
+pub bytes-two : {u : Word} (n : ℕ) → n < 65536 → u ≡ to_le_bytes w16 n → u ≡ two_bytes n
+unfolding two_bytes
+bytes-two n h e = let high : n / 256 % 256 ≡ n / 256 = omega arith in e ∙ ap (λ (x : ℕ). n % 256 ∷ x ∷ []) high
+
+-- those of a start and of an end, written one after the other
+pub interval-written : {u v : Word} (l : Word) (at start end : ℕ) → at + 4 ≤ length l → u ≡ two_bytes start → v ≡ two_bytes end
+    → put_mid (at + 2) (at + 4 - (at + 2)) (put_mid at (at + 2 - at) l u) v ≡ sets l at (interval_bytes (interval start end ∷ []))
 unfolding interval_bytes two_bytes
-four-stored l at start end =
-    let e : at + 1 ≡ suc at = omega arith in
-    let f : at + 2 ≡ suc (suc at) = omega arith in
-    let h : at + 3 ≡ suc (suc (suc at)) = omega arith in
-    rw (e, f, h) refl
+interval-written {u} {v} l at start end h p q =
+    let a : length u ≡ 2 = ap length p in
+    let b : length v ≡ 2 = ap length q in
+    let first = written-part l u at (at + 2 - at) (omega arith) (omega arith) in
+    let second = written-part (sets l at u) v (at + 2) (at + 4 - (at + 2)) (omega (arith, length-sets l at u)) (omega arith) in
+    let both : u ++ v ≡ interval_bytes (interval start end ∷ []) = rw (p, q) refl in
+    ap (λ (m : Word). put_mid (at + 2) (at + 4 - (at + 2)) m v) first
+    ∙ second
+    ∙ ap (λ (n : ℕ). sets (sets l at u) (at + n) v) (sym a)
+    ∙ sym (sets-append l at u v)
+    ∙ ap (sets l at) both
 
 -- those of the first k right ends stand at the front of the buffer, and the next would come at the place `at`
 pub record Written (b out₀ : Word) (k : ℕ) (out : Word) (at : ℕ) : Type 0 where

@@ -1,5 +1,6 @@
-// The minimal unique palindromes of a good store, by where they stand. Each is the longest palindrome at its right end and
-// first met there, so one pass over the rows that are first met has them in the order of their ends, which is that of their starts.
+// The minimal unique palindromes of a good store, by where they stand. Each is the longest
+// palindrome at its right end and first met there, so one pass over the rows that are first met
+// has them in the order of their ends, which is that of their starts.
 #![tactic(auto)]
 
 ghost use Rattle.std.specs.Prelude.{◌≡◌, true, [], ◌∷◌, ◌+◌, ◌≤◌, ◌<◌, length};
@@ -15,17 +16,15 @@ ghost use Rattle.unique_rows.specs.Marks.{Marks};
 use spelling::spelling_length;
 use store::{header, rows};
 
-// Whether a row's palindrome is minimal unique: it stands once only, and its inner row is a root's or stands at least twice.
+// Whether a row's palindrome is minimal unique: it stands once only, and its inner row is a
+// root's or stands at least twice.
 fn is_minimal(b: &[u8], marks: &[u8], row: usize) -> bool
     requires good { Good b.now }
     requires marks { Marks b.now (size_in b.now) marks.now }
     requires row_value { used_in b.now row ≡ true }
     ensures { result ≡ is_minimal_unique (rule_of b.now) (letters_in b.now) (spelling_of (node_in b.now row)) }
 {
-    if marks[row] != 1 {
-        return false;
-    }
-    marks[rows::inner_of(b, row)] == 2
+    marks[row] == 1 && marks[rows::inner_of(b, row)] == 2
 }
 
 // How many minimal unique palindromes there are.
@@ -35,29 +34,25 @@ pub fn count_minimal(b: &[u8], firsts: &[u16], marks: &[u8]) -> usize
     requires marks { Marks b.now (size_in b.now) marks.now }
     ensures { result ≡ length (minimal_unique (rule_of b.now) (letters_in b.now)) }
 {
-    let n = header::size(b);
     let mut total = 0;
-    let mut k = 0;
-    while k < n {
-        if is_minimal(b, marks, firsts[k] as usize) {
+    for first in &firsts[..header::size(b)] {
+        if is_minimal(b, marks, usize::from(*first)) {
             total += 1;
         }
-        k += 1;
     }
     total
 }
 
-// Writes a start and an end from the place `at` on, two bytes each, low byte first, and answers the place behind them.
+// Writes a start and an end from the place `at` on, two bytes each, low byte first, and answers
+// the place behind them.
 fn put_interval(out: &mut [u8], at: usize, start: usize, end: usize) -> usize
     requires at_in_bounds { at + 4 ≤ length out.old }
     requires start_bound { (start < 65536) × (end < 65536) }
     ensures written { out.new ≡ sets out.old at (interval_bytes (interval start end ∷ [])) }
     ensures behind { result ≡ at + 4 }
 {
-    out[at] = (start % 256) as u8;
-    out[at + 1] = (start / 256) as u8;
-    out[at + 2] = (end % 256) as u8;
-    out[at + 3] = (end / 256) as u8;
+    out[at..at + 2].copy_from_slice(&(start as u16).to_le_bytes());
+    out[at + 2..at + 4].copy_from_slice(&(end as u16).to_le_bytes());
     at + 4
 }
 
@@ -69,14 +64,12 @@ pub fn put_minimal(b: &[u8], firsts: &[u16], marks: &[u8], out: &mut [u8])
     requires b_in_bounds { length (interval_bytes (minimal_unique (rule_of b.now) (letters_in b.now))) ≤ length out.old }
     ensures { out.new ≡ sets out.old 0 (interval_bytes (minimal_unique (rule_of b.now) (letters_in b.now))) }
 {
-    let n = header::size(b);
     let mut at = 0;
-    let mut k = 0;
-    while k < n {
-        let row = firsts[k] as usize;
-        k += 1;
+    for (k, first) in firsts[..header::size(b)].iter().enumerate() {
+        let row = usize::from(*first);
         if is_minimal(b, marks, row) {
-            at = put_interval(out, at, k - spelling_length(b, row), k);
+            let end = k + 1;
+            at = put_interval(out, at, end - spelling_length(b, row), end);
         }
     }
 }
