@@ -6,7 +6,7 @@ ghost use Rattle.palindromes.specs.Word.{is_letter, all_letters};
 
 // Whether a byte is one of them.
 #[tactic(auto, unfolding(palindromes::specs::Word::is_letter))]
-fn is_letter(c: u8) -> bool
+pub fn is_letter(c: u8) -> bool
     ensures { result ≡ is_letter c }
 {
     match c {
