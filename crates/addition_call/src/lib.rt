@@ -1,5 +1,5 @@
-// The host's call that adds a letter, at either end. It tests its store and its letter, asks nothing
-// of the caller, and leaves every byte as the outcome of the call says.
+// The host's call that adds a letter, at either end. It tests its store and its letter, asks
+// nothing of the caller, and leaves every byte as the outcome of the call says.
 #![tactic(auto)]
 
 ghost use Rattle.std.specs.Prelude.{◌≡◌, ◌≤◌, length};
@@ -18,8 +18,8 @@ use refusal::Refusal;
 use store::header;
 use store::letters::Side;
 
-// Whether a host's number is one of the four letters. A number over a byte's is none: narrowed before
-// the test, 321 would be taken for A.
+// Whether a host's number is one of the four letters. One that no byte holds is none: cut to a byte
+// before the test, 321 would be taken for A.
 fn is_letter(c: u64) -> bool
     ensures { result ≡ is_letter c }
 {

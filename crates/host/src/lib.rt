@@ -1,6 +1,6 @@
-// The calls of a host in C, by the names of include/mirror.h. Each only hands on to a function of the
-// crate of its call, where need be with its end or its reading, and makes the same promise, which holds
-// for all bytes and all numbers.
+// The calls of a host in C, by the names of include/mirror.h. Each only hands on to a function of
+// the crate of its call, where need be with its end or its reading, and makes the same promise, which
+// holds for all bytes and all numbers.
 #![tactic(auto)]
 
 ghost use Rattle.palindromes.specs.Reading.{as_plain, as_inverted};

@@ -2,23 +2,19 @@
 // argument, asks nothing of the caller, and leaves every byte as the outcome of the call says.
 #![tactic(auto)]
 
-ghost use Rattle.std.specs.Prelude.{◌≡◌, ◌≤◌, length, IfOk, IfErr};
-ghost use Rattle.refusal.specs.Number.{number_of};
-ghost use Rattle.palindromes.specs.Reading.{Reading as Way};
-ghost use Rattle.palindromes.specs.Refusal.{store_size, opening, refusal};
-ghost use Rattle.store.specs.Good.{rule_of};
+ghost use Rattle.std.specs.Prelude.{IfOk, IfErr};
 ghost use Rattle.opening.specs.Ways.{way_of};
-ghost use Rattle.outcome.specs.Outcome.{view_in};
-ghost use Rattle.outcome.specs.Promise.{nothing, OpeningPromise};
+ghost use Rattle.outcome.specs.Promise.{OpeningPromise};
+ghost use Rattle.opening_call.specs.Room.{Room, Refuses};
 
 use opening::Reading;
 use outcome::{pack, refuse};
 use refusal::Refusal;
 
-// The capacity, where a store has room for a record of it, in either reading; and else why it has not.
+// The capacity as a size, where a store has room for a record of it; and else why it has not.
 fn judge_open(store: &[u8], capacity: u64) -> Result<usize, Refusal>
-    ensures room { IfOk result (λ k. (k ≡ capacity) × (1 ≤ k) × (k ≤ 1024) × (store_size k ≤ length store.now)) }
-    ensures none { IfErr result (λ f. (way : Way) → refusal (rule_of store.now) (view_in store.now nothing) (opening way capacity) ≡ number_of f) }
+    ensures room { IfOk result (Room capacity store.now) }
+    ensures none { IfErr result (Refuses capacity store.now) }
 {
     if capacity < 1 || 1024 < capacity {
         return Err(Refusal::Capacity);

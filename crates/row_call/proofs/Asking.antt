@@ -71,9 +71,12 @@ two-bytes (suc m) h = omega arith
 read-back : (n : ℕ) → n < 65536 → to_z w32 (of_z w32 (pos n)) ≡ pos n
 read-back n h = to_z-of_z {w = w32} (record { sfits = omega arith })
 
-pub low-bytes : (z r : ℤ) → Stored z → r ≡ int_rem_euclid z (pos 65536) → (nat_abs (to_z w32 (of_z w32 r)) ≡ twos_complement z) × (nat_abs (to_z w32 (of_z w32 r)) < 65536)
+pub low-bytes : (z r : ℤ) → Stored z → r ≡ int_rem_euclid z (pos 65536)
+    → (nat_abs (to_z w32 (of_z w32 r)) ≡ twos_complement z) × (nat_abs (to_z w32 (of_z w32 r)) < 65536)
 low-bytes z r s e =
     let small : twos_complement z < 65536 = subst (λ (y : ℤ). twos_complement y < 65536) (sym s.is) (two-bytes s.number s.small) in
-    let same : r ≡ pos (twos_complement z) = e ∙ subst (λ (y : ℤ). int_rem_euclid y (pos 65536) ≡ pos (twos_complement y)) (sym s.is) (modulo s.number s.small) in
-    let is : nat_abs (to_z w32 (of_z w32 r)) ≡ twos_complement z = ap (λ (y : ℤ). nat_abs (to_z w32 (of_z w32 y))) same ∙ ap nat_abs (read-back (twos_complement z) small) in
+    let left : int_rem_euclid z (pos 65536) ≡ pos (twos_complement z) =
+    subst (λ (y : ℤ). int_rem_euclid y (pos 65536) ≡ pos (twos_complement y)) (sym s.is) (modulo s.number s.small) in
+    let is : nat_abs (to_z w32 (of_z w32 r)) ≡ twos_complement z =
+    ap (λ (y : ℤ). nat_abs (to_z w32 (of_z w32 y))) (e ∙ left) ∙ ap nat_abs (read-back (twos_complement z) small) in
     (is, omega (arith, is, small))

@@ -1,5 +1,5 @@
-// The host's call that changes the reading of a record. It tests its store, asks nothing of the caller,
-// and leaves every byte as the outcome of the call says.
+// The host's call that changes the reading of a record. It tests its store, asks nothing of the
+// caller, and leaves every byte as the outcome of the call says.
 #![tactic(auto)]
 
 ghost use Rattle.palindromes.specs.Refusal.{turn};

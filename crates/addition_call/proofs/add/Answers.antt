@@ -18,8 +18,8 @@ use Rattle.addition_call.proofs.Adding.{addable, reported-is, answer_of, added-f
 use Rattle.addition_call.proofs.add.Goals as goal
 
 -- what the one letter brings, and what is reported of it
-told : (e : End) (l : ℕ) (b : Word) {t : Bool} {f a : Added} → t ≡ reports_in (reading_in b) e → f ≡ added_of (brings_in e l b) (free_row b) (steps_towards b e l)
-    → a ≡ reported_of t f → a ≡ answer_of e l b
+told : (e : End) (l : ℕ) (b : Word) {t : Bool} {f a : Added} → t ≡ reports_in (reading_in b) e
+    → f ≡ added_of (brings_in e l b) (free_row b) (steps_towards b e l) → a ≡ reported_of t f → a ≡ answer_of e l b
 told e l b p q r = r ∙ ap₂ reported_of p q ∙ reported-is e l b
 
 pub reports-told-requires : goal.reports-told-requires

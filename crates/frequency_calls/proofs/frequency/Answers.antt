@@ -18,7 +18,8 @@ pack-requires c =
 
 pub returns-in-Ok : goal.returns-in-Ok
 returns-in-Ok c =
-    frequency-answered _ _ (answerable _ _ _ _ c.in-Ok.ensures refl) (c.pack.ensures ∙ ap (λ (n : ℕ). packed (accepted false 0 n 0)) c.frequency-places.ensures)
+    frequency-answered _ _ (answerable _ _ _ _ c.in-Ok.ensures refl)
+    (c.pack.ensures ∙ ap (λ (n : ℕ). packed (accepted false 0 n 0)) c.frequency-places.ensures)
 
 pub returns-in-Err : goal.returns-in-Err
 returns-in-Err c = by-refusal _ _ _ _ c.in-Err.ensures c.refuse.ensures

@@ -1,5 +1,4 @@
 -- A capacity outside its bounds, a store that is too short, and one that has room.
-use Rattle.std.proofs.Common.{refl}
 use Rattle.opening_call.proofs.Opening.{too_small, too_large, too_short, room_for}
 use Rattle.opening_call.proofs.judge_open.Goals as goal
 use Rattle.opening_call.proofs.judge_open.Goals.{then-capacity-lt1-via-then-capacity-lt1, then-capacity-lt1-via-else-capacity-lt1+then-capacity-gt1024}
@@ -15,4 +14,4 @@ pub returns-then-store-k-clause-none : goal.returns-then-store-k-clause-none
 returns-then-store-k-clause-none c = too_short _ _ c.if-capacity-lt1.false c.if-capacity-gt1024.false c.if-store-k.true
 
 pub returns-clause-room : goal.returns-clause-room
-returns-clause-room c = (refl, c.if-capacity-lt1.false, c.if-capacity-gt1024.false, room_for _ c.args.store.now c.if-store-k.false)
+returns-clause-room c = room_for _ _ c.if-capacity-lt1.false c.if-capacity-gt1024.false c.if-store-k.false

@@ -3,7 +3,7 @@ use Rattle.opening_call.proofs.Opening.{opening-by-refusal, opened_up}
 use Rattle.opening_call.proofs.open.Goals as goal
 
 pub returns-in-Ok : goal.returns-in-Ok
-returns-in-Ok c = let r = c.in-Ok.ensures.room in rw (← r.0) (opened_up _ _ _ r.1 r.2 r.3 c.pack.ensures c.«open».ensures)
+returns-in-Ok c = opened_up _ _ _ _ c.in-Ok.ensures.room c.pack.ensures c.«open».ensures
 
 pub returns-in-Err : goal.returns-in-Err
-returns-in-Err c = opening-by-refusal _ _ _ _ (c.in-Err.ensures.none _) c.refuse.ensures
+returns-in-Err c = opening-by-refusal _ _ _ _ c.in-Err.ensures.none c.refuse.ensures

@@ -22,7 +22,8 @@ pub returns-in-Ok : goal.returns-in-Ok
 returns-in-Ok c =
     let a = answerable _ _ _ _ c.in-Ok.ensures refl in
     let r = c.row-found.ensures in
-    row-answered _ _ a (c.pack.ensures ∙ row-packs r.link (c.two_bytes.ensures.0 ∙ ap twos_complement (kept (length-stored _ _ a _ r.length) ∙ r.length)) r.inner)
+    let length = ap twos_complement (kept (length-stored _ _ a _ r.length) ∙ r.length) in
+    row-answered _ _ a (c.pack.ensures ∙ row-packs r.link (c.two_bytes.ensures.0 ∙ length) r.inner)
 
 pub returns-in-Err : goal.returns-in-Err
 returns-in-Err c = by-refusal _ _ _ _ c.in-Err.ensures c.refuse.ensures
