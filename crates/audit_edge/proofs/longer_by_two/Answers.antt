@@ -1,9 +1,8 @@
--- `audit_edge::longer_by_two` decides whether one row is longer than another by two: the signed lengths are equal exactly if the numbers that store them are. Assumes nothing.
-use Prim.Native.Nat.{ℕ, ◌+◌}
-use native.Mathlib.Omega.{arith}
-use borrow.Author.Rules.{rules}
-use mathlib.Core.Path.{◌≡◌, sym, ap, ◌∙◌}
-use lib.IntN.{ℤ, pos, pred_ℤ}
+-- The signed lengths are equal exactly if the numbers that store them are. Assumes nothing.
+use Rattle.std.proofs.Common.{ℕ, ◌≡◌, ◌+◌, ◌∙◌, true, eqb, arith, sym, ap, refl, eq-eqb}
+use Rattle.std.specs.Prelude.{ℤ, pos}
+use Rattle.std.proofs.Math.IntN.{pred_ℤ}
+use borrow.Author.Tests.{eqb-true}
 use mir.Syntax.{w32}
 use mir.Val.{of_z, to_z}
 use mir.Facts.{to_z-of_z}
@@ -11,8 +10,8 @@ use Rattle.palindromes.specs.Word.{Word}
 use Rattle.store.specs.Layout.{cell, length_in}
 use Rattle.store.specs.Lengths.{Stored}
 use Rattle.store.proofs.Signed.{kept, length-fits, number_is}
-use Rattle.audit_edge.proofs.longer_by_two.Statement.{statement}
-use Rattle.audit_edge.proofs.longer_by_two.Tie as tie
+use Rattle.audit_fixed.proofs.Decided.{carried, test-decides}
+use Rattle.audit_edge.proofs.longer_by_two.Goals as goal
 
 module _ (b : Word) (u q : ℕ) {short long around : ℤ} (x : (short ≡ length_in b u) × Stored short) (y : (long ≡ length_in b q) × Stored long)
     (p : (m : ℕ) → to_z w32 (of_z w32 short) ≡ pred_ℤ (pos m) → around ≡ pred_ℤ (pos (m + 2))) where
@@ -34,11 +33,11 @@ module _ (b : Word) (u q : ℕ) {short long around : ℤ} (x : (short ≡ length
   unfolding length_in
   longer-bits e = ap (of_z w32) (y.0 ∙ ap (λ (m : ℕ). pred_ℤ (pos m)) e ∙ sym around-is)
 
-returns : tie.Need-returns-then-length-around
-returns c e = let a = c.before.before.before.before.before.args in c.if-length-around.true (longer-bits a.b.now a.u a.q c.before.before.before.length_of.ensures c.before.length_of-length.ensures c.before.before.plus_two-around.ensures e)
-
-returns-2 : tie.Need-returns
-returns-2 c = let a = c.before.before.before.before.before.args in longer a.b.now a.u a.q c.before.before.before.length_of.ensures c.before.length_of-length.ensures c.before.before.plus_two-around.ensures c.if-length-around.false
-
-pub longer_by_two_spec : {M : Type 1} → statement M
-longer_by_two_spec = tie.close (tie.spec (λ c κs. search rules) (λ c κs. search rules) (λ c κs. search rules) returns returns-2)
+pub returns : goal.returns
+returns c =
+    let a = c.args in
+    let x = of_z w32 c.length_of-length.result in
+    let y = of_z w32 c.plus_two-around.result in
+    carried (eqb x y ≡ true) (cell a.b.now a.q 0 ≡ cell a.b.now a.u 0 + 2) (eqb x y) (test-decides (eqb x y) refl)
+    (λ t. longer a.b.now a.u a.q c.length_of.ensures c.length_of-length.ensures c.plus_two-around.ensures (eqb-true x y t))
+    (λ e. eq-eqb x y (longer-bits a.b.now a.u a.q c.length_of.ensures c.length_of-length.ensures c.plus_two-around.ensures e))
