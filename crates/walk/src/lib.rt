@@ -83,8 +83,7 @@ pub fn step(b: &[u8], f: Frame, side: Side, k: usize, start: usize, d: u8, want:
     ensures { Stepped b.now (seen_in b.now f side) k d (partner_in f d) start result }
 {
     let search = walk(b, f, side, k, start, d, want);
-    let met = search.met;
-    match met {
+    match search.met {
         Some(u) => rows::edge_of(b, u, d),
         None => Row::EMPTY,
     }
