@@ -57,7 +57,7 @@ use Rattle.audit_edge.specs.Edge.{PointsBack, Walkable, LinkFound, alone, within
 use Rattle.audit_edge.proofs.Edge.{good-names}
 use Rattle.audit_lengths.specs.Lengths.{LengthsOf, Countable, Counted}
 use Rattle.audit_lengths.proofs.Lengths.{lengths-empty, lengths-same, lengths-more, count_small}
-use Rattle.audit_tour.specs.Tour.{Ready, read_in, met_in, marked_row, Blank, reach_at, Toured, Arrived, Reading, Grows, Visited}
+use Rattle.audit_tour.specs.Tour.{Ready, read_in, met_in, marked_row, Blank, reach_at, Toured, Arrived, Reading, Grows}
 use Rattle.audit_tour.specs.declared.Tour.{Tour}
 use Rattle.audit_tour.proofs.Marks.{met-root, met-marked, met-unmarked, blank-met, met-set, none-marked, one-marked}
 
@@ -166,12 +166,6 @@ module _ {b marks carried : Word} (z : Ready b) (n : Blank marks) (y : Blank car
       by_end : Reaches b (met_in marks) at_left [] (reach_at at_left none) → Reaches b (met_in marks) at_right [] (reach_at at_right none) → (e : End) → Reaches b (met_in marks) e [] (reach_at e none)
       by_end l r at_left = l
       by_end l r at_right = r
-
--- ---- what the code goes by
-
--- how a tour stands, by the answer that it gave
-pub led : (b marks carried p : Word) (r s : Option Tour) → Visited b marks carried p r → r ≡ s → Visited b marks carried p s
-led b marks carried p r s v e = subst (Visited b marks carried p) e v
 
 -- ---- a letter
 
