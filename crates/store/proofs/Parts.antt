@@ -7,7 +7,7 @@ use native.Mathlib.Omega.{arith}
 use mathlib.Core.Path.{◌≡◌, refl, sym, ap, ◌∙◌}
 use mathlib.Core.Logic.{◌≢◌}
 use mathlib.Core.List.{[], ◌∷◌, ◌++◌, append_assoc}
-use lib.ListN.{length, take, drop, get_or, set, replicate, take-append-drop}
+use lib.ListN.{length, take, drop, get_or, set, take-append-drop}
 use lib.ListN.{length-drop}
 use lib.Seq.{sets, length-sets, ext_get_or, sets-eq, set_comm, get_or-set_other, get_or-drop, take-add, take-suc, drop-cons, take_at, drop_at, length-take-le}
 use Rattle.palindromes.specs.Word.{Word}
@@ -99,7 +99,3 @@ left_step l base k h =
       sets-snoc l base (take k d) k (get_or d k 0) size,
       sets-outside l base (take k d) (base + 1 + k) (omega arith),
     )
-
--- zeros may be stored one after the other
-pub zeros-next : (l : Word) (i n : ℕ) → i < n → sets (set l i 0) (i + 1) (replicate (n - (i + 1)) 0) ≡ sets l i (replicate (n - i) 0)
-zeros-next l i n h = let e : n - i ≡ suc (n - (i + 1)) = omega arith in rw (e, add-one)
