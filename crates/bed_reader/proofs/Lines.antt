@@ -8,7 +8,7 @@ use lib.ListN.{length, take, drop}
 use Rattle.palindromes.specs.Word.{Word}
 use Rattle.palindromes.specs.Sheet.{split, Line, line_of, with_line, lines_of, sheet_lines}
 use Rattle.bed_reader.specs.declared.Entry.{Entry}
-use Rattle.bed_reader.specs.declared.Parsed.TheVariants.{ALine, NoLine}
+use Rattle.std.specs.Prelude.{Some, None}
 use Rattle.bed_reader.specs.Reading.{place_of, entry_of, parsed_of}
 use Rattle.bed_reader.proofs.Fields.{split-none, split-first, split-some}
 
@@ -29,12 +29,12 @@ unfolding sheet_lines lines_of split
 sheet-empty = refl
 
 -- what was read is the line
-pub parsed-none : (identifier : Word) (o : Option Line) → parsed_of identifier o ≡ NoLine → o ≡ none
+pub parsed-none : (identifier : Word) (o : Option Line) → parsed_of identifier o ≡ None → o ≡ none
 unfolding parsed_of
 parsed-none identifier none e = refl
 parsed-none identifier (some l) e = absurd (let z : ◌≡◌ {A = ℕ} 0 1 = cc in omega arith)
 
-pub parsed-line : (identifier : Word) (o : Option Line) (x : Entry) → parsed_of identifier o ≡ ALine x
+pub parsed-line : (identifier : Word) (o : Option Line) (x : Entry) → parsed_of identifier o ≡ Some x
     → (l : Line) × (o ≡ some l) × (entry_of identifier l ≡ x)
 unfolding parsed_of
 parsed-line identifier none x e = absurd (let z : ◌≡◌ {A = ℕ} 0 1 = cc in omega arith)
