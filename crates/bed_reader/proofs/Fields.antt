@@ -105,14 +105,14 @@ number-value w n = go (is_number w)
   where
     go : (t : Bool) → cond t (Some (value w)) None ≡ Some n → (t ≡ true) × (value w ≡ n)
     go true e = (refl, cc)
-    go false e = absurd (let z : ◌≡◌ {A = ℕ} 0 1 = cc in omega arith)
+    go false e = cc
 
 pub number-none : (w : Word) → number_of w ≡ None → is_number w ≡ false
 unfolding number_of
 number-none w = go (is_number w)
   where
     go : (t : Bool) → cond t (Some (value w)) None ≡ None → t ≡ false
-    go true e = absurd (let z : ◌≡◌ {A = ℕ} 0 1 = cc in omega arith)
+    go true e = cc
     go false e = refl
 
 -- one byte of a field more

@@ -1,5 +1,5 @@
 -- A sheet line by line: what stands in front of the first LF is a line, and the sheet goes on behind it. Rests on the laws of parts.
-use Prim.Native.Nat.{ℕ, suc, ◌≤◌, ◌<◌}
+use Prim.Native.Nat.{suc, ◌≤◌, ◌<◌}
 use native.Mathlib.Omega.{arith}
 use mathlib.Core.Path.{◌≡◌, refl}
 use mathlib.Core.List.{[], ◌∷◌}
@@ -32,10 +32,10 @@ sheet-empty = refl
 pub parsed-none : (identifier : Word) (o : Option Line) → parsed_of identifier o ≡ None → o ≡ none
 unfolding parsed_of
 parsed-none identifier none e = refl
-parsed-none identifier (some l) e = absurd (let z : ◌≡◌ {A = ℕ} 0 1 = cc in omega arith)
+parsed-none identifier (some l) e = cc
 
 pub parsed-line : (identifier : Word) (o : Option Line) (x : Entry) → parsed_of identifier o ≡ Some x
     → (l : Line) × (o ≡ some l) × (entry_of identifier l ≡ x)
 unfolding parsed_of
-parsed-line identifier none x e = absurd (let z : ◌≡◌ {A = ℕ} 0 1 = cc in omega arith)
+parsed-line identifier none x e = cc
 parsed-line identifier (some l) x e = (l, refl, cc)
