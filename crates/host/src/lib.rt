@@ -48,14 +48,14 @@ pub fn mirror_add_right(store: &mut [u8], letter: u64) -> u64
 pub fn mirror_remove_left(store: &mut [u8]) -> u64
     ensures { Promise (remove at_left) store.old nothing result store.new nothing }
 {
-    removal_call::remove_left(store)
+    removal_call::remove(store, Side::Left)
 }
 
 // Removes the letter at the right end.
 pub fn mirror_remove_right(store: &mut [u8]) -> u64
     ensures { Promise (remove at_right) store.old nothing result store.new nothing }
 {
-    removal_call::remove_right(store)
+    removal_call::remove(store, Side::Right)
 }
 
 // Turns the record to the plain reading.
@@ -104,14 +104,14 @@ pub fn mirror_longest(store: &[u8]) -> u64
 pub fn mirror_longest_left(store: &[u8]) -> u64
     ensures { Asked (the_longest_at at_left) store.now nothing result nothing }
 {
-    longest_calls::longest_left(store)
+    longest_calls::longest_at(store, Side::Left)
 }
 
 // The longest repeat at the right end: its row, and whether it stands once only.
 pub fn mirror_longest_right(store: &[u8]) -> u64
     ensures { Asked (the_longest_at at_right) store.now nothing result nothing }
 {
-    longest_calls::longest_right(store)
+    longest_calls::longest_at(store, Side::Right)
 }
 
 // The letter at a place.

@@ -2,7 +2,7 @@
 // of the caller, and changes no byte.
 #![tactic(auto)]
 
-ghost use Rattle.palindromes.specs.End.{End, at_left, at_right};
+ghost use Rattle.palindromes.specs.End.{End};
 ghost use Rattle.palindromes.specs.Refusal.{ask, the_longest, the_longest_at};
 ghost use Rattle.std.specs.Prelude.{MatchResult};
 ghost use Rattle.store.specs.Layout.{used_in, letters_in};
@@ -45,7 +45,7 @@ pub fn longest_repeat(store: &[u8]) -> u64
 }
 
 // The row of the longest repeat at a side, and whether it stands once only: the test has read the letters.
-fn longest_at(store: &[u8], side: Side) -> u64
+pub fn longest_at(store: &[u8], side: Side) -> u64
     ensures { Asked (the_longest_at (end_of side)) store.now nothing result nothing }
 {
     match judge_longest(store) {
@@ -55,18 +55,4 @@ fn longest_at(store: &[u8], side: Side) -> u64
         }
         Err(refusal) => refuse(refusal),
     }
-}
-
-// The longest repeat at the left end: its row, and whether it stands once only.
-pub fn longest_left(store: &[u8]) -> u64
-    ensures { Asked (the_longest_at at_left) store.now nothing result nothing }
-{
-    longest_at(store, Side::Left)
-}
-
-// The longest repeat at the right end: its row, and whether it stands once only.
-pub fn longest_right(store: &[u8]) -> u64
-    ensures { Asked (the_longest_at at_right) store.now nothing result nothing }
-{
-    longest_at(store, Side::Right)
 }

@@ -2,7 +2,6 @@
 // and leaves every byte as the outcome of the call says.
 #![tactic(auto)]
 
-ghost use Rattle.palindromes.specs.End.{at_left, at_right};
 ghost use Rattle.palindromes.specs.Refusal.{remove};
 ghost use Rattle.std.specs.Prelude.{◌<◌, MatchResult};
 ghost use Rattle.store.specs.Layout.{size_in, used_in, letters_in};
@@ -31,27 +30,13 @@ fn judge_remove(store: &[u8], side: Side) -> Result<Reach, Refusal>
     Ok(reach_at(tour, side))
 }
 
-// Removes the letter at a side: the letter, and 1 and the row that went, or 0 and row 0. What a removal asks of the letters
-// the test has read.
-fn remove_letter(store: &mut [u8], side: Side) -> u64
+// Removes the letter at a side: the letter, and 1 and the row that went, or 0 and row 0. What a removal
+// asks of the letters the test has read.
+pub fn remove(store: &mut [u8], side: Side) -> u64
     ensures { Promise (remove (end_of side)) store.old nothing result store.new nothing }
 {
     match judge_remove(store, side) {
         Ok(reach) => answers::answer_removed(removal::remove(store, side, reach)),
         Err(refusal) => refuse(refusal),
     }
-}
-
-// Removes the letter at the left end.
-pub fn remove_left(store: &mut [u8]) -> u64
-    ensures { Promise (remove at_left) store.old nothing result store.new nothing }
-{
-    remove_letter(store, Side::Left)
-}
-
-// Removes the letter at the right end.
-pub fn remove_right(store: &mut [u8]) -> u64
-    ensures { Promise (remove at_right) store.old nothing result store.new nothing }
-{
-    remove_letter(store, Side::Right)
 }

@@ -2,13 +2,6 @@
 ghost use Rattle.std.specs.Prelude.{◌≡◌, ◌+◌, ◌*◌, ◌<◌, length};
 ghost use Rattle.store.specs.Layout.{cell_at, cell, set_cell};
 
-// A byte as an index.
-pub fn wide(x: u8) -> usize
-    ensures { (result ≡ x) × (result < 256) }
-{
-    usize::from(x)
-}
-
 // The number in cell f of row r.
 pub fn get(b: &[u8], r: usize, f: usize) -> usize
     requires { cell_at r f + 1 < length b.now }
