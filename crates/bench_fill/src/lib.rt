@@ -10,7 +10,7 @@ use opening::Reading;
 use store::letters::Side;
 
 // Fills a record, and answers how many letters it was given; 0 where it has no room or a byte is no
-// letter, and the store then stays.
+// letter, and the store then stays. C reads the answer, so it is a number.
 pub fn bench_fill(store: &mut [u8], letters: &[u8]) -> u64
     ensures { Fills store.old letters.now result store.new }
 {

@@ -6,7 +6,8 @@ ghost use Rattle.bench_series.specs.Visited.{Visited};
 use factorization::factorize;
 use store::header;
 
-// The rows visited, 0 where the store is damaged or the record inverted.
+// The rows visited, 0 where the store is damaged or the record inverted. C reads the answer, so it is a
+// number.
 pub fn bench_series(store: &[u8]) -> u64
     ensures { Visited store.now result }
 {

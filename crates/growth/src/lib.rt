@@ -33,7 +33,8 @@ fn meet(b: &[u8], side: Side, d: u8, want: u8) -> Search
     walk::walk(b, f, side, f.n, start, d, want)
 }
 
-// The link of what d makes around row u: for a single letter the empty string, with no second walk.
+// The link of what d makes around row u: for a single letter the empty string, with no second walk. The
+// test's `link_found` (crates/audit_edge) is no twin: it may not ask for a good store.
 fn link_around(b: &[u8], side: Side, d: u8, want: u8, u: usize) -> usize
     requires good { Good b.now }
     requires want_value { want ≡ rule_of b.now d }

@@ -6,6 +6,9 @@ ghost use Rattle.outcome.specs.Answers.{added_reply, removed_reply, found_reply}
 
 use super::pack;
 
+// Each of the three stays an enum of its own: a definition gives the number and the values of each of
+// its cases, and a case that has no row has a number or a letter all the same.
+
 // What an addition answers: the row of the palindrome that came in, or that none did, and how many
 // candidates were passed in the search for it.
 #[derive(Clone, Copy)]

@@ -6,6 +6,9 @@ ghost use Rattle.store.specs.Side.{end_of};
 use super::cells;
 use super::letters::Side;
 
+// The getters and setters differ in a cell alone, and `cells::get` and `cells::put` are their one
+// function. Each has a name of its own: `header::size(b)` says more than a cell's two numbers would.
+
 // How many letters the record has room for.
 pub fn capacity(b: &[u8]) -> usize
     requires { 48 ≤ length b.now }

@@ -39,6 +39,9 @@ impl Row {
     }
 }
 
+// As in the header, the getters and setters of a row are names for its cells: `cells::get` and
+// `cells::put` are their one function.
+
 // The length of row r's palindrome.
 pub fn length_of(b: &[u8], r: usize) -> i32
     requires { 24 * r + 24 ≤ length b.now }
