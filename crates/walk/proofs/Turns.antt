@@ -1,5 +1,5 @@
--- What holds at the row that a walk has come to (`Turn`): from there the links lead down to row 0, and what the walk finds from there it finds from the start, once the
--- rows counted are passed; there are few of those, for the rows' stored lengths fall. Assumes nothing.
+-- What holds at the row that a walk has come to (`Turn`): from there the links lead down to row 0, and what the walk finds from there it finds from
+-- the start, once the rows counted are passed; there are few of those, for the rows' stored lengths fall. Assumes nothing.
 use Prim.Native.Nat.{ℕ, ◌+◌, ◌<◌}
 use native.Mathlib.Omega.{arith}
 use mathlib.Core.Path.{◌≡◌, refl, sym, subst}
@@ -21,7 +21,8 @@ pub turn-start : {b t : Word} {k d want start : ℕ} → Chain b start → Turn 
 turn-start {b} {t} {k} {d} {want} {start} h =
     record { chain = h; few = inl refl; back = λ n m o e g. subst (λ (i : ℕ). Meets b t k d want start i o) (omega arith) g }
 
-module _ {b t : Word} {k d want start row passed : ℕ} (h : Turn b t k d want start row passed) (n : row ≡ 0 → ⊥) (x : Bool) (f : (x ≡ faces_at b t k want row) × (cell b row 0 < 65536)) where
+module _ {b t : Word} {k d want start row passed : ℕ} (h : Turn b t k d want start row passed) (n : row ≡ 0 → ⊥) (x : Bool)
+    (f : (x ≡ faces_at b t k want row) × (cell b row 0 < 65536)) where
   -- the walk ends at a row that faces the wanted letter
   pub turn-here : x ≡ true → Meets b t k d want start passed (Some row)
   turn-here g = h.back 0 passed (Some row) (omega arith) (here n (cc f.0) refl refl)

@@ -13,8 +13,10 @@ use Rattle.walk.proofs.Turns.{turn-start, turn-here, few-more, turn_on}
 use Rattle.walk.proofs.walk.Goals as goal
 
 -- the test says whether the partner of d is read before the row's palindrome, and so does the comparison with the letter that stands there
-compared : {b : Word} {row n : ℕ} {x : Bool} (f : Frame) (side : Side) (k d want : ℕ) → Within b f k → Chain b row → (row ≡ 0 → ⊥) → n ≡ facing (end_of side) d want → want ≡ partner_in f d
-    → (x ≡ faces_at b (standing_in b f side) k n row) × (cell b row 0 < 65536) → (x ≡ faces_at b (seen_in b f side) k (partner_in f d) row) × (cell b row 0 < 65536)
+compared : {b : Word} {row n : ℕ} {x : Bool} (f : Frame) (side : Side) (k d want : ℕ)
+    → Within b f k → Chain b row → (row ≡ 0 → ⊥) → n ≡ facing (end_of side) d want → want ≡ partner_in f d
+    → (x ≡ faces_at b (standing_in b f side) k n row) × (cell b row 0 < 65536)
+    → (x ≡ faces_at b (seen_in b f side) k (partner_in f d) row) × (cell b row 0 < 65536)
 compared {b} {row} f side k d want w h nonzero e p t =
     let stored : 0 < cell b row 0 = omega (arith, (chain_next h nonzero).0) in
     (t.0 ∙ ap (λ (y : ℕ). faces_at b (standing_in b f side) k y row) (e ∙ ap (facing (end_of side) d) p) ∙ facing-read b f side k d row w stored, t.1)
