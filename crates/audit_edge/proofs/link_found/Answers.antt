@@ -1,14 +1,13 @@
-use Rattle.std.proofs.Common.{ℕ, ◌≡◌, arith, refl, sym}
-use mathlib.Core.Path.{subst, subst₂}
+use Rattle.std.proofs.Common.{ℕ, ◌≡◌, arith}
+use mathlib.Core.Path.{subst₂}
 use Rattle.palindromes.specs.Word.{Word}
 use Rattle.store.specs.Layout.{link_in}
 use Rattle.store.specs.declared.letters.Side.TheVariants.{Right}
 use Rattle.walk.specs.Frame.{Frames, seen_in, partner_in}
-use Rattle.walk.specs.Walk.{Chain, Stepped}
+use Rattle.walk.specs.Walk.{Stepped}
 use Rattle.walk.specs.declared.frame.Frame.{Frame}
-use Rattle.walk.proofs.Chains.{chain_fits, chain_next}
 use Rattle.walk.proofs.Stores.{framed-right, framed-rule, framed-within}
-use Rattle.audit_edge.specs.Edge.{LinkFound, alone, within}
+use Rattle.audit_edge.specs.Edge.{LinkFound, within}
 use Rattle.audit_edge.proofs.link_found.Goals as goal
 
 -- the step over the letters that the frame shows
@@ -17,19 +16,9 @@ stepped : {b : Word} {f : Frame} → Frames b f → (k d u link x : ℕ) → (u 
 stepped {b} h k d u link x n e s =
     within n (rw (← e) (subst₂ (λ (t : Word) (want : ℕ). Stepped b t k d want link x) (framed-right h) (framed-rule h d) s))
 
-pub returns-then-u-eq-IMAGINARY : goal.returns-then-u-eq-IMAGINARY
-returns-then-u-eq-IMAGINARY c = alone c.if-u-eq-IMAGINARY.true refl
-
-pub link_of-requires : goal.link_of-requires
-link_of-requires c = chain_fits c.requires.walkable.chain
-
-pub step-requires : goal.step-requires
-step-requires c =
-    let p = c.requires.walkable in record {
-      within = framed-within p.framed p.sized c.args.k (omega (arith, p.more));
-      chain = subst (Chain c.args.b.now) (sym c.link_of.ensures.0) (chain_next p.chain c.if-u-eq-IMAGINARY.false).1;
-      want_value = c.requires.want_value;
-    }
+pub step-requires-clause-within : goal.step-requires-clause-within
+step-requires-clause-within c =
+    let p = c.requires.walkable in framed-within p.framed p.sized c.args.k (omega (arith, p.more))
 
 pub returns : goal.returns
 returns c =

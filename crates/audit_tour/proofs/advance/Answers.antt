@@ -1,4 +1,4 @@
-use Rattle.std.proofs.Common.{ℕ, ◌+◌, ◌≡◌, true, arith, rules, ap, ◌∙◌, get_or}
+use Rattle.std.proofs.Common.{ℕ, ◌+◌, ◌≡◌, true, arith, ap, ◌∙◌, get_or}
 use mathlib.Core.Path.{subst, subst₂}
 use Rattle.std.specs.Prelude.{Option}
 use Rattle.palindromes.specs.Word.{Word}
@@ -29,24 +29,18 @@ standing-d-requires c =
     let w = framed-within c.requires.frames.0 c.requires.reading.ready.sized (c.args.k + 1) (omega (arith, c.requires.reading.more)) in
     (w.letters, omega (arith, w.read))
 
-pub walk-search-requires : goal.walk-search-requires
-walk-search-requires c =
-    let r = c.requires.reading in record {
-      within = framed-within c.requires.frames.0 r.ready.sized c.args.k (omega (arith, r.more));
-      chain = met-chain r c.args.tour.row (r.toured.ends at_right).row-used;
-      want_value = c.partner_in-want.ensures ∙ c.requires.frames.1 c.standing-d.result (search rules);
-    }
+pub walk-search-requires-clause-within : goal.walk-search-requires-clause-within
+walk-search-requires-clause-within c =
+    let r = c.requires.reading in framed-within c.requires.frames.0 r.ready.sized c.args.k (omega (arith, r.more))
 
-pub enter-requires : goal.enter-requires
-enter-requires c =
+pub walk-search-requires-clause-chain : goal.walk-search-requires-clause-chain
+walk-search-requires-clause-chain c = let r = c.requires.reading in met-chain r c.args.tour.row (r.toured.ends at_right).row-used
+
+pub enter-requires-clause-grows : goal.enter-requires-clause-grows
+enter-requires-clause-grows c =
     let h = c.requires.frames.0 in
-    let r = c.requires.reading in
     let e = letter h c.args.k c.standing-d.ensures in
-    let m = met h c.args.k c.walk-search.ensures in record {
-      frames = (h, c.partner_in-want.ensures ∙ c.requires.frames.1 c.standing-d.result (search rules));
-      reading = r;
-      grows = tour-grows r e m c.in-Some.u c.in-Some.is;
-    }
+    tour-grows c.requires.reading e (met h c.args.k c.walk-search.ensures) c.in-Some.u c.in-Some.is
 
 pub returns-in-None : goal.returns-in-None
 returns-in-None c =

@@ -1,4 +1,4 @@
-use Rattle.std.proofs.Common.{ℕ, ◌<◌, arith, length}
+use Rattle.std.proofs.Common.{ℕ, ◌<◌, arith}
 use mathlib.Core.Path.{subst}
 use Rattle.palindromes.specs.Word.{Word}
 use Rattle.walk.proofs.Stores.{rows_fit}
@@ -6,7 +6,7 @@ use Rattle.transitions.proofs.Rows.{row_fits}
 use Rattle.audit_fixed.proofs.Decided.{holds, fails}
 use Rattle.ends.specs.declared.Reach.{Reach}
 use Rattle.audit_left.specs.Left.{LeftNew}
-use Rattle.audit_edge.specs.Edge.{PointsBack, NewRow}
+use Rattle.audit_edge.specs.Edge.{NewRow}
 use Rattle.audit_tour.specs.Tour.{Reading}
 use Rattle.audit_tour.specs.declared.Tour.{Tour}
 use Rattle.audit_tour.proofs.Letter.{met-most, grown-walkable, new-countable, new-link, tour-old, tour-new, good-back, good_new}
@@ -20,10 +20,6 @@ module _ {b marks carried : Word} {k : ℕ} {t : Tour} (s : Reading b marks carr
   met-small : t.met < 1024
   met-small = omega (arith, met-most s, k-small)
 
-  -- every row of the table has a mark
-  mark_of : (q : ℕ) {u d : ℕ} → PointsBack b u d q → q < length marks
-  mark_of q r = omega (arith, s.toured.long, r.high, s.ready.sized.at_most)
-
 pub edge_of-q-requires : goal.edge_of-q-requires
 edge_of-q-requires c =
     let p = c.requires in
@@ -33,21 +29,13 @@ pub returns-then-not-points_back : goal.returns-then-not-points_back
 returns-then-not-points_back c g =
     fails _ c.points_back.result c.points_back.ensures c.if-not-points_back.true (good-back c.requires.reading c.requires.grows g c.edge_of-q.ensures.0)
 
--- from here on the row names the edge
-pub bounds-marks-q : goal.bounds-marks-q
-bounds-marks-q c =
-    mark_of c.requires.reading c.edge_of-q.result (holds _ c.points_back.result c.points_back.ensures c.if-not-points_back.false)
-
 pub returns-then-marks-q-eq1 : goal.returns-then-marks-q-eq1
 returns-then-marks-q-eq1 c =
     let named = holds _ c.points_back.result c.points_back.ensures c.if-not-points_back.false in
     tour-old c.requires.reading c.requires.grows named c.if-marks-q-eq1.true (rw c.reach_at.ensures at c.left_known-known.ensures) c.arrive.ensures
 
-pub new_row_right-requires : goal.new_row_right-requires
-new_row_right-requires c =
-    let p = c.requires in
-    let named = holds _ c.points_back.result c.points_back.ensures c.if-not-points_back.false in
-    record { walkable = grown-walkable p.reading p.grows p.frames.0; q_bound = named.high; want_value = p.frames.1 }
+pub new_row_right-requires-clause-walkable : goal.new_row_right-requires-clause-walkable
+new_row_right-requires-clause-walkable c = let p = c.requires in grown-walkable p.reading p.grows p.frames.0
 
 pub returns-then-not-new_row_right : goal.returns-then-not-new_row_right
 returns-then-not-new_row_right c g =
@@ -55,10 +43,6 @@ returns-then-not-new_row_right c g =
     let q = c.edge_of-q in
     good_new c.requires.reading c.requires.grows g q.ensures.0
     (subst (NewRow a.b.now a.k a.d a.u q.result) c.if-not-new_row_right.true c.new_row_right.ensures)
-
-pub bounds-marks-q-2 : goal.bounds-marks-q-2
-bounds-marks-q-2 c =
-    mark_of c.requires.reading c.edge_of-q.result (holds _ c.points_back.result c.points_back.ensures c.if-not-points_back.false)
 
 pub count_row-requires : goal.count_row-requires
 count_row-requires c =

@@ -1,9 +1,9 @@
-use Rattle.std.proofs.Common.{ℕ, arith, sym, ◌∙◌}
+use Rattle.std.proofs.Common.{ℕ, arith}
 use Rattle.palindromes.specs.Word.{Word}
 use Rattle.store.specs.Layout.{link_in}
 use Rattle.store.specs.Side.{end_of}
 use Rattle.walk.specs.Walk.{Stepped}
-use Rattle.walk.proofs.Stores.{framed-rule, framed-within}
+use Rattle.walk.proofs.Stores.{framed-within}
 use Rattle.walk.proofs.Reading.{good-chain}
 use Rattle.transitions.proofs.Rows.{covers, used-fits}
 use Rattle.growth.proofs.Growing.{framed, link-single, link-stepped}
@@ -16,14 +16,12 @@ returns-then-u-eq-IMAGINARY c =
 pub link_of-start-requires : goal.link_of-start-requires
 link_of-start-requires c = used-fits c.requires.good c.args.u c.requires.d_value.1.0
 
-pub step-requires : goal.step-requires
-step-requires c =
-    let g = c.requires.good in
-    let f = c.frame_of-f in record {
-      within = framed-within f.ensures g.sized f.result.n (omega (arith, f.ensures.size_is));
-      chain = rw c.link_of-start.ensures.0 (good-chain g (link_in c.args.b.now c.args.u) ((covers g).link-is c.args.u c.requires.d_value.1.0).0);
-      want_value = c.requires.want_value ∙ sym (framed-rule f.ensures c.args.d);
-    }
+pub step-requires-clause-within : goal.step-requires-clause-within
+step-requires-clause-within c = let f = c.frame_of-f in framed-within f.ensures c.requires.good.sized f.result.n (omega (arith, f.ensures.size_is))
+
+pub step-requires-clause-chain : goal.step-requires-clause-chain
+step-requires-clause-chain c =
+    let g = c.requires.good in rw c.link_of-start.ensures.0 (good-chain g (link_in c.args.b.now c.args.u) ((covers g).link-is c.args.u c.requires.d_value.1.0).0)
 
 pub returns : goal.returns
 returns c =

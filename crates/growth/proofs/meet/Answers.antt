@@ -1,9 +1,9 @@
-use Rattle.std.proofs.Common.{ℕ, arith, sym, ◌∙◌}
+use Rattle.std.proofs.Common.{ℕ, arith}
 use Rattle.palindromes.specs.Word.{Word}
 use Rattle.store.specs.Layout.{end_row}
 use Rattle.store.specs.Side.{end_of}
 use Rattle.walk.specs.Walk.{Meets}
-use Rattle.walk.proofs.Stores.{header-fits, framed-rule, framed-within}
+use Rattle.walk.proofs.Stores.{header-fits, framed-within}
 use Rattle.walk.proofs.Reading.{good-chain}
 use Rattle.growth.proofs.Growing.{framed, met, passed}
 use Rattle.growth.proofs.meet.Goals as goal
@@ -11,15 +11,12 @@ use Rattle.growth.proofs.meet.Goals as goal
 pub end_row-start-requires : goal.end_row-start-requires
 end_row-start-requires c = header-fits c.requires.good.sized
 
-pub walk-requires : goal.walk-requires
-walk-requires c =
-    let g = c.requires.good in
-    let f = c.frame_of-f in
-    let e = end_of c.args.side in record {
-      within = framed-within f.ensures g.sized f.result.n (omega (arith, f.ensures.size_is));
-      chain = rw c.end_row-start.ensures.0 (good-chain g (end_row c.args.b.now e) (g.ends e).used);
-      want_value = c.requires.want_value ∙ sym (framed-rule f.ensures c.args.d);
-    }
+pub walk-requires-clause-within : goal.walk-requires-clause-within
+walk-requires-clause-within c = let f = c.frame_of-f in framed-within f.ensures c.requires.good.sized f.result.n (omega (arith, f.ensures.size_is))
+
+pub walk-requires-clause-chain : goal.walk-requires-clause-chain
+walk-requires-clause-chain c =
+    let g = c.requires.good in rw c.end_row-start.ensures.0 (good-chain g (end_row c.args.b.now (end_of c.args.side)) (g.ends (end_of c.args.side)).used)
 
 pub returns : goal.returns
 returns c =
