@@ -31,6 +31,7 @@ pub fn sized(b: &[u8]) -> bool
 }
 
 // Whether every letter is one.
+#[tactic(auto, unfolding(palindromes::specs::Refusal::store_size, store::specs::Layout::letters_in))]
 pub fn letters_right(b: &[u8]) -> bool
     requires { Sized b.now }
     ensures { Decides result (all_letters (letters_in b.now) ≡ true) }

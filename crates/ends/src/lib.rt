@@ -31,6 +31,7 @@ pub fn across(b: &[u8], side: Side, longest: i32, n: usize, whole: usize) -> usi
 }
 
 // Puts the number of letters, the row of the end at `side` and that of the end across.
+#[tactic(auto, unfolding(store::specs::Writes::writes))]
 pub fn settle(b: &mut [u8], side: Side, n: usize, row: usize, opposite: usize)
     requires { 48 ≤ length b.old }
     ensures { b.new ≡ writes b.old (end_writes (end_of side) n row opposite) }

@@ -8,6 +8,7 @@ use store::header;
 use walk::frame::frame_of;
 
 // How many letters stand.
+#[tactic(auto, unfolding(palindromes::specs::Refusal::store_size, store::specs::Layout::letters_in))]
 pub fn length(b: &[u8]) -> usize
     requires { Good b.now }
     ensures { result ≡ length (letters_in b.now) }
@@ -16,6 +17,7 @@ pub fn length(b: &[u8]) -> usize
 }
 
 // How many distinct palindromes stand.
+#[tactic(auto, unfolding(palindromes::specs::Refusal::store_size))]
 pub fn count(b: &[u8]) -> usize
     requires { Good b.now }
     ensures { result ≡ count (rule_of b.now) (letters_in b.now) }
@@ -24,6 +26,7 @@ pub fn count(b: &[u8]) -> usize
 }
 
 // The letter at place i, counted from 0 at the left.
+#[tactic(auto, unfolding(palindromes::specs::Refusal::store_size, store::specs::Layout::letters_in))]
 pub fn letter(b: &[u8], i: usize) -> u8
     requires good { Good b.now }
     requires i_in_bounds { i < length (letters_in b.now) }

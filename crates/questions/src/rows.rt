@@ -9,6 +9,7 @@ use store::rows::Row;
 use store::{header, rows};
 
 // Whether the number is a root's or that of a row in use.
+#[tactic(auto, unfolding(palindromes::specs::Refusal::store_size, store::specs::Layout::used_in))]
 pub fn is_used(b: &[u8], r: usize) -> bool
     requires { Good b.now }
     ensures { result ≡ used_in b.now r }

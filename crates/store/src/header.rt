@@ -10,6 +10,7 @@ use super::letters::Side;
 // function. Each has a name of its own: `header::size(b)` says more than a cell's two numbers would.
 
 // How many letters the record has room for.
+#[tactic(auto, unfolding(crate::specs::Layout::capacity_in))]
 pub fn capacity(b: &[u8]) -> usize
     requires { 48 ≤ length b.now }
     ensures { (result ≡ capacity_in b.now) × (result < 65536) }
@@ -18,6 +19,7 @@ pub fn capacity(b: &[u8]) -> usize
 }
 
 // How many letters stand.
+#[tactic(auto, unfolding(crate::specs::Layout::size_in))]
 pub fn size(b: &[u8]) -> usize
     requires { 48 ≤ length b.now }
     ensures { (result ≡ size_in b.now) × (result < 65536) }
@@ -26,6 +28,7 @@ pub fn size(b: &[u8]) -> usize
 }
 
 // How many palindromes stand.
+#[tactic(auto, unfolding(crate::specs::Layout::count_in))]
 pub fn count(b: &[u8]) -> usize
     requires { 48 ≤ length b.now }
     ensures { (result ≡ count_in b.now) × (result < 65536) }
@@ -34,6 +37,7 @@ pub fn count(b: &[u8]) -> usize
 }
 
 // How the record is read.
+#[tactic(auto, unfolding(crate::specs::Layout::reading_in))]
 pub fn reading(b: &[u8]) -> usize
     requires { 48 ≤ length b.now }
     ensures { (result ≡ reading_in b.now) × (result < 65536) }
@@ -42,6 +46,7 @@ pub fn reading(b: &[u8]) -> usize
 }
 
 // The largest length of a palindrome, 0 where there is none.
+#[tactic(auto, unfolding(crate::specs::Layout::longest_length_in))]
 pub fn longest(b: &[u8]) -> usize
     requires { 48 ≤ length b.now }
     ensures { (result ≡ longest_length_in b.now) × (result < 65536) }
@@ -57,6 +62,7 @@ pub fn end_cell(side: Side) -> usize
 }
 
 // The row of the longest palindrome at a side.
+#[tactic(auto, unfolding(crate::specs::Layout::end_row))]
 pub fn end_row(b: &[u8], side: Side) -> usize
     requires { 48 ≤ length b.now }
     ensures { (result ≡ end_row b.now (end_of side)) × (result < 65536) }

@@ -43,6 +43,7 @@ impl Row {
 // `cells::put` are their one function.
 
 // The length of row r's palindrome.
+#[tactic(auto, unfolding(crate::specs::Layout::length_in))]
 pub fn length_of(b: &[u8], r: usize) -> i32
     requires { 24 * r + 24 ≤ length b.now }
     ensures { (result ≡ length_in b.now r) × Stored result }
@@ -51,6 +52,7 @@ pub fn length_of(b: &[u8], r: usize) -> i32
 }
 
 // The row of the longest proper suffix.
+#[tactic(auto, unfolding(crate::specs::Layout::link_in))]
 pub fn link_of(b: &[u8], r: usize) -> usize
     requires { 24 * r + 24 ≤ length b.now }
     ensures { (result ≡ link_in b.now r) × (result < 65536) }
@@ -59,6 +61,7 @@ pub fn link_of(b: &[u8], r: usize) -> usize
 }
 
 // The row of what stands between the outer letters.
+#[tactic(auto, unfolding(crate::specs::Layout::inner_in))]
 pub fn inner_of(b: &[u8], r: usize) -> usize
     requires { 24 * r + 24 ≤ length b.now }
     ensures { (result ≡ inner_in b.now r) × (result < 65536) }
@@ -67,6 +70,7 @@ pub fn inner_of(b: &[u8], r: usize) -> usize
 }
 
 // The last letter.
+#[tactic(auto, unfolding(crate::specs::Layout::outer_in))]
 pub fn outer_of(b: &[u8], r: usize) -> usize
     requires { 24 * r + 24 ≤ length b.now }
     ensures { (result ≡ outer_in b.now r) × (result < 65536) }
@@ -75,6 +79,7 @@ pub fn outer_of(b: &[u8], r: usize) -> usize
 }
 
 // The place of row r in the order of rows, those in use first.
+#[tactic(auto, unfolding(crate::specs::Layout::rank_in))]
 pub fn rank_of(b: &[u8], r: usize) -> usize
     requires { 24 * r + 24 ≤ length b.now }
     ensures { (result ≡ rank_in b.now r) × (result < 65536) }
@@ -83,6 +88,7 @@ pub fn rank_of(b: &[u8], r: usize) -> usize
 }
 
 // The row at place i of the order.
+#[tactic(auto, unfolding(crate::specs::Layout::order_in))]
 pub fn order_of(b: &[u8], i: usize) -> usize
     requires { 24 * (i + 2) + 24 ≤ length b.now }
     ensures { (result ≡ order_in b.now i) × (result < 65536) }
@@ -91,6 +97,7 @@ pub fn order_of(b: &[u8], i: usize) -> usize
 }
 
 // How many palindromes have length k, which is not 0: beside row k + 1.
+#[tactic(auto, unfolding(crate::specs::Layout::length_count_in))]
 pub fn count_of_length(b: &[u8], k: usize) -> usize
     requires { 24 * (k + 1) + 24 ≤ length b.now }
     ensures { (result ≡ length_count_in b.now k) × (result < 65536) }
@@ -99,6 +106,7 @@ pub fn count_of_length(b: &[u8], k: usize) -> usize
 }
 
 // The cell of a row that holds its edge by a letter.
+#[tactic(auto, unfolding(crate::specs::Layout::edge_cell))]
 pub fn edge_cell(c: u8) -> usize
     ensures { (result ≡ edge_cell c) × (4 ≤ result) × (result < 8) }
 {
@@ -111,6 +119,7 @@ pub fn edge_cell(c: u8) -> usize
 }
 
 // The row that the edge of row r by a letter leads to, 0 where there is none.
+#[tactic(auto, unfolding(crate::specs::Layout::edge_in))]
 pub fn edge_of(b: &[u8], r: usize, c: u8) -> usize
     requires { 24 * r + 24 ≤ length b.now }
     ensures { (result ≡ edge_in b.now r c) × (result < 65536) }

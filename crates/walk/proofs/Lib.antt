@@ -1,5 +1,6 @@
 -- laws of the walk and of the replay: what each finds, at either end
 pub mod Chains
+pub mod Turns
 pub mod Found
 pub mod Towards
 pub mod Facing

@@ -18,6 +18,7 @@ pub struct Frame {
 }
 
 // Reads the header.
+#[tactic(auto, unfolding(palindromes::specs::Refusal::store_size))]
 pub fn frame_of(b: &[u8]) -> Frame
     requires { Sized b.now }
     ensures { Frames b.now result }
