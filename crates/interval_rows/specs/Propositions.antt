@@ -1,5 +1,5 @@
--- Each fact that `IntervalRows` of src/lib.rt states of its fields has at most one proof, as such a fact must: a word is its end with one beginning alone, and a
--- node of the eertree has one row alone. Assumes nothing.
+-- Each fact that `IntervalRows` of src/lib.rt states of its fields has at most one proof, as such a fact must: a word has one beginning before an end of it,
+-- and a node of the eertree one row. Assumes nothing.
 use Rattle.std.specs.Prelude.{◌≡◌, ℕ, true, ◌++◌}
 use Rattle.std.proofs.Common.{sym, ap, ◌∙◌}
 use Rattle.std.proofs.lemmas.List.{append_cancel_right}

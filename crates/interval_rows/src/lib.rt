@@ -74,7 +74,8 @@ impl IntervalRows<'_> {
     // From a row with more than n letters to the one that its jump leads to, where that has no
     // fewer, and else to its link.
     fn closer(self, n: usize, row: usize) -> usize
-        requires row_value { (used_in self.store.now row ≡ true) × (n < length (word_in self.store.now row)) }
+        requires row_used { used_in self.store.now row ≡ true }
+        requires row_longer { n < length (word_in self.store.now row) }
         ensures { Leads self.entry.store.now n row result }
     {
         let far = usize::from(self.jumps[row]);
