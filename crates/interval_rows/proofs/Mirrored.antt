@@ -2,6 +2,7 @@
 -- `symmetric-suffix` and on the laws of ends of words.
 use Rattle.std.proofs.Common.{◌≡◌, ℕ, ◌+◌, ◌-◌, ◌<◌, ◌≤◌, ◌++◌, length, take, drop, sym, ap, ◌∙◌, subst, arith, length-append, take-append-drop, length-take-le, take-take, take_at, drop_at}
 use lib.Seq.{take-append-add}
+use Rattle.std.specs.Prelude.{Option, Some, None}
 use Rattle.palindromes.specs.Word.{Word}
 use Rattle.palindromes.specs.Palindrome.{mirror, Symmetric, Palindrome}
 use Rattle.palindromes.specs.Place.{Prefix, Suffix}
@@ -14,7 +15,7 @@ use Rattle.store.specs.Layout.{size_in, letters_in}
 use Rattle.store.specs.Good.{rule_of, Good}
 use Rattle.store.proofs.Sizes.{letters-length}
 use Rattle.walk.specs.Replay.{ending_in, Holds}
-use Rattle.interval_rows.specs.IntervalRow.{word_in, word_between, RowOf, found, none}
+use Rattle.interval_rows.specs.IntervalRow.{word_in, word_between, IsRowOf, RowOf}
 use Rattle.interval_rows.proofs.Ways.{near_first, near_none, between_ends, between-length}
 
 -- the first letters of a symmetric word, where they are symmetric, end it
@@ -52,7 +53,7 @@ module _ {b : Word} (g : Good b) {start end row : ℕ} (l : start < end) (k : en
   long = between-length g start end k
 
   -- too long for the palindrome at its end
-  pub no_room : length (word_in b row) < end - start → RowOf b (word_between b start end) 0
+  pub no_room : length (word_in b row) < end - start → RowOf b (word_between b start end) None
   no_room m = near_none g (omega (arith, m, long)) (near_first g (between_ends g start end) h)
 
   module _ (m : end - start ≤ length (word_in b row)) where
@@ -83,10 +84,10 @@ module _ {b : Word} (g : Good b) {start end row : ℕ} (l : start < end) (k : en
         suffix-full (suffix-shorter s inside (omega (arith, t, long))) (omega (arith, t, long))
 
     -- so its row is the stretch's
-    pub image-row : {r : ℕ} → RowOf b (word_between b (end - length (word_in b row)) (end - length (word_in b row) + (end - start))) r
+    pub image-row : (r : Option ℕ) → RowOf b (word_between b (end - length (word_in b row)) (end - length (word_in b row) + (end - start))) r
         → RowOf b (word_between b start end) r
-    image-row {r} x = go (subst (λ (w : Word). RowOf b w r) image-is x)
+    image-row r x = go r (subst (λ (w : Word). RowOf b w r) image-is x)
       where
-        go : RowOf b (take (end - start) (word_in b row)) r → RowOf b (word_between b start end) r
-        go (found u i n p) = subst (λ (w : Word). RowOf b w r) (other_way p) (found u i n p)
-        go (none z n) = none z (λ p. n (subst (Palindrome (rule_of b)) (one_way p) p))
+        go : (o : Option ℕ) → RowOf b (take (end - start) (word_in b row)) o → RowOf b (word_between b start end) o
+        go (Some q) f = subst (λ (w : Word). IsRowOf b w q) (other_way f.palindrome) f
+        go None n = λ p. n (subst (Palindrome (rule_of b)) (one_way p) p)

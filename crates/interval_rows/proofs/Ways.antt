@@ -5,6 +5,7 @@
 use Rattle.std.proofs.Common.{◌≡◌, ℕ, ◌+◌, ◌-◌, ◌<◌, ◌≤◌, true, ◌⊎◌, [], ◌∷◌, length, get_or, take, set, replicate, sym, refl, ap, ◌∙◌, subst, ⊎_elim, arith, length-drop, length-set, take-append-drop, length-take, get_or-set_other, get_or-set_same}
 use native.Mathlib.Decide.{ℕ_discrete}
 use lib.ListN.{length-replicate, get_or-replicate}
+use Rattle.std.specs.Prelude.{None}
 use Rattle.palindromes.specs.Word.{Word}
 use Rattle.palindromes.specs.Palindrome.{Palindrome, Symmetric}
 use Rattle.palindromes.specs.Place.{Suffix}
@@ -19,7 +20,7 @@ use Rattle.store.proofs.Sizes.{letters-length}
 use Rattle.transitions.proofs.Rows.{covers, row_below}
 use Rattle.walk.specs.Replay.{ending_in, Holds}
 use Rattle.end_rows.specs.EndRows.{EndRows}
-use Rattle.interval_rows.specs.IntervalRow.{word_in, word_between, RowOf, found, none, Below, Jumps, Near, Leads}
+use Rattle.interval_rows.specs.IntervalRow.{word_in, word_between, IsRowOf, RowOf, Below, Jumps, Near, Leads}
 
 -- ---- words
 
@@ -138,14 +139,14 @@ module _ {b : Word} (g : Good b) where
   -- ---- found, or not
 
   pub near-found : {end row : ℕ} {w : Word} → Suffix w (take end (letters_in b)) → 0 < length w → length (word_in b row) ≡ length w → Near b end w row
-      → RowOf b w row
+      → IsRowOf b w row
   unfolding spelling_of
   near-found {end} {row} {w} s m e a = go (node_in b row) refl
     where
       same : word_in b row ≡ w
       same = suffix-full (suffix-shorter a.ends s (omega (arith, e))) (omega (arith, e))
 
-      go : (v : Node) → node_in b row ≡ v → RowOf b w row
+      go : (v : Node) → node_in b row ≡ v → IsRowOf b w row
       go imaginary q = absurd (omega (arith, m, e, ap (λ (x : Node). length (spelling_of x)) q))
       go (spelt v) q =
           let f : v ≡ w = sym (ap spelling_of q) ∙ same in
@@ -153,10 +154,10 @@ module _ {b : Word} (g : Good b) where
           let high : 2 ≤ row = row-high (covers g) row n (λ z. omega (arith, m, ap length z)) in
           let p = word_row (covers g) row a.used high in
           let k : p.0 ≡ w = ap spelling_of (sym p.1 ∙ n) in
-          found a.used high n (subst (Palindrome (rule_of b)) k p.2)
+          record { used = a.used; high = high; holds = n; palindrome = subst (Palindrome (rule_of b)) k p.2 }
 
-  pub near_none : {end row : ℕ} {w : Word} → length (word_in b row) < length w → Near b end w row → RowOf b w 0
-  near_none l a = none refl (λ p. omega (arith, l, suffix-length (a.all p)))
+  pub near_none : {end row : ℕ} {w : Word} → length (word_in b row) < length w → Near b end w row → RowOf b w None
+  near_none l a p = omega (arith, l, suffix-length (a.all p))
 
   -- the word between two places ends the letters up to the second
   pub between_ends : (start end : ℕ) → Suffix (word_between b start end) (take end (letters_in b))

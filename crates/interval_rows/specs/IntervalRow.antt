@@ -1,5 +1,5 @@
 -- What the contracts of src/lib.rt say of the row of the word between two places, and of the jumps along the links by which it is found.
-use Rattle.std.specs.Prelude.{◌≡◌, ℕ, ◌-◌, ◌<◌, ◌≤◌, true, length, take, slice_index}
+use Rattle.std.specs.Prelude.{◌≡◌, ℕ, ◌-◌, ◌<◌, ◌≤◌, true, length, take, slice_index, Option, MatchOption}
 use Rattle.palindromes.specs.Word.{Word}
 use Rattle.palindromes.specs.Palindrome.{Palindrome}
 use Rattle.palindromes.specs.Place.{Suffix}
@@ -16,10 +16,16 @@ word_in b r = spelling_of (node_in b r)
 abbrev pub word_between : Word → ℕ → ℕ → Word
 word_between b start end = word_at (letters_in b) (interval start end)
 
--- the row of a palindrome, and 0 for any other word
-pub data RowOf (b w : Word) (r : ℕ) : Type 0 where
-  found : used_in b r ≡ true → 2 ≤ r → node_in b r ≡ spelt w → Palindrome (rule_of b) w → RowOf b w r
-  none : r ≡ 0 → (Palindrome (rule_of b) w → ⊥) → RowOf b w r
+-- a row from 2 on holds the word, which is a palindrome
+pub record IsRowOf (b w : Word) (r : ℕ) : Type 0 where
+  pub used : used_in b r ≡ true
+  pub high : 2 ≤ r
+  pub holds : node_in b r ≡ spelt w
+  pub palindrome : Palindrome (rule_of b) w
+
+-- the row of a palindrome, and none for any other word
+abbrev pub RowOf : Word → Word → Option ℕ → Type 0
+RowOf b w r = MatchOption r (Palindrome (rule_of b) w → ⊥) (IsRowOf b w)
 
 -- q lies further down the links than r: it spells a shorter end of what r spells. A root lies below itself
 pub record Below (b : Word) (r q : ℕ) : Type 0 where

@@ -1,1 +1,2 @@
 pub mod IntervalRow
+pub mod Propositions

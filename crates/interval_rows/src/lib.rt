@@ -10,10 +10,23 @@ ghost use Rattle.store.specs.Layout.{size_in, used_in};
 ghost use Rattle.store.specs.Good.{Good};
 ghost use Rattle.end_rows.specs.EndRows.{EndRows};
 ghost use Rattle.interval_rows.specs.IntervalRow.{word_in, word_between, RowOf, Jumps, Leads};
+ghost use Rattle.interval_rows.specs.Propositions.{Good-prop, Jumps-prop};
 
 use spelling::spelling_length;
 use store::rows::Row;
 use store::{header, rows};
+
+// The rows of a record's stretches: at each right end that of the longest palindrome there, and
+// from each row a jump down the links.
+#[derive(Clone, Copy)]
+pub struct IntervalRows<'a> {
+    pub store: &'a [u8],
+    pub ends: &'a [u16],
+    pub jumps: &'a [u16],
+    pub ghost good: { Good store.now } by { Good-prop store.now },
+    pub ghost end_rows: { EndRows store.now ends.now },
+    pub ghost jumps_down: { Jumps store.now jumps.now } by { Jumps-prop store.now jumps.now },
+}
 
 // Where a row's jump goes, by the depths of its link, of that one's jump and of the jump's jump:
 // past both if they are equally far, and else to the link.
@@ -57,57 +70,52 @@ pub fn fill_jumps(b: &[u8], ends: &[u16], jumps: &mut [u16])
     }
 }
 
-// From a row with more than n letters to the one that its jump leads to, where that has no fewer,
-// and else to its link.
-fn closer(b: &[u8], jumps: &[u16], n: usize, row: usize) -> usize
-    requires good { Good b.now }
-    requires jumps { Jumps b.now jumps.now }
-    requires row_value { (used_in b.now row ≡ true) × (n < length (word_in b.now row)) }
-    ensures { Leads b.now n row result }
-{
-    let far = usize::from(jumps[row]);
-    if n <= spelling_length(b, far) {
-        far
-    } else {
-        rows::link_of(b, row)
+impl IntervalRows<'_> {
+    // From a row with more than n letters to the one that its jump leads to, where that has no
+    // fewer, and else to its link.
+    fn closer(self, n: usize, row: usize) -> usize
+        requires row_used { used_in self.store.now row ≡ true }
+        requires row_longer { n < length (word_in self.store.now row) }
+        ensures { Leads self.entry.store.now n row result }
+    {
+        let far = usize::from(self.jumps[row]);
+        if n <= spelling_length(self.store, far) {
+            far
+        } else {
+            rows::link_of(self.store, row)
+        }
     }
-}
 
-// The row of a stretch from the row at its end on, and 0 where it is no palindrome.
-fn row_by_jumps(b: &[u8], ends: &[u16], jumps: &[u16], start: usize, end: usize) -> usize
-    requires good { Good b.now }
-    requires end_rows { EndRows b.now ends.now }
-    requires jumps { Jumps b.now jumps.now }
-    requires start_lt_end { (start < end) × (end ≤ size_in b.now) }
-    ensures { RowOf b.now (word_between b.now start end) result }
-{
-    let n = end - start;
-    let mut row = usize::from(ends[end - 1]);
-    while n < spelling_length(b, row) {
-        row = closer(b, jumps, n, row);
+    // The row of a stretch from the row at its end on.
+    fn row_by_jumps(self, start: usize, end: usize) -> Option<usize>
+        requires start_lt_end { (start < end) × (end ≤ size_in self.store.now) }
+        ensures { RowOf self.entry.store.now (word_between self.entry.store.now start end) result }
+    {
+        let n = end - start;
+        let mut row = usize::from(self.ends[end - 1]);
+        while n < spelling_length(self.store, row) {
+            row = self.closer(n, row);
+        }
+        if spelling_length(self.store, row) == n {
+            Some(row)
+        } else {
+            None
+        }
     }
-    if spelling_length(b, row) == n {
-        row
-    } else {
-        Row::IMAGINARY
-    }
-}
 
-// The row of the stretch from `start` up to `end`, and 0 where it is no palindrome. In the
-// palindrome at its end a palindrome stands at the other end too, where often none is longer.
-pub fn row_of_interval(b: &[u8], ends: &[u16], jumps: &[u16], start: usize, end: usize) -> usize
-    requires good { Good b.now }
-    requires end_rows { EndRows b.now ends.now }
-    requires jumps { Jumps b.now jumps.now }
-    requires start_lt_end { (start < end) × (end ≤ size_in b.now) }
-    ensures { RowOf b.now (word_between b.now start end) result }
-{
-    let n = end - start;
-    let m = spelling_length(b, usize::from(ends[end - 1]));
-    if m < n {
-        Row::IMAGINARY
-    } else {
-        let from = end - m;
-        row_by_jumps(b, ends, jumps, from, from + n)
+    // The row of the stretch from `start` up to `end`, where it is a palindrome. In the palindrome
+    // at its end a palindrome stands at the other end too, where often none is longer.
+    pub fn row_of_interval(self, start: usize, end: usize) -> Option<usize>
+        requires start_lt_end { (start < end) × (end ≤ size_in self.store.now) }
+        ensures { RowOf self.entry.store.now (word_between self.entry.store.now start end) result }
+    {
+        let n = end - start;
+        let m = spelling_length(self.store, usize::from(self.ends[end - 1]));
+        if m < n {
+            None
+        } else {
+            let from = end - m;
+            self.row_by_jumps(from, from + n)
+        }
     }
 }

@@ -28,22 +28,12 @@ use Rattle.mark_laws.proofs.Missing.{all-missing, one_less, mark-wrong, mark-rep
 use Rattle.mark_laws.proofs.Missing.{named-stands}
 use Rattle.bed_reader.specs.declared.Entry.{Entry}
 use Rattle.bed_reader.specs.Reading.{entry_of}
-use Rattle.interval_rows.specs.IntervalRow.{word_between, RowOf, found, none}
+use Rattle.interval_rows.specs.IntervalRow.{word_between, IsRowOf}
 use Rattle.line_marks.specs.declared.LineMark.{LineMark}
 use Rattle.line_marks.specs.declared.LineMark.TheVariants.{Right, Repeated, Wrong}
 use Rattle.line_marks.specs.LineMarks.{line_mark_of, mark_in, before_next, Named}
 
 -- ---- a line on a good store
-
--- no row, and a row
-pub row-none : {b w : Word} {r : ℕ} → RowOf b w r → r ≡ 0 → Palindrome (rule_of b) w → ⊥
-row-none (found u h n p) e q = omega arith
-row-none (none z n) e q = n q
-
-pub row-found : {b w : Word} {r : ℕ} → RowOf b w r → (r ≡ 0 → ⊥)
-    → (used_in b r ≡ true) × (2 ≤ r) × (node_in b r ≡ spelt w) × Palindrome (rule_of b) w
-row-found (found u h n p) e = (u, h, n, p)
-row-found (none z n) e = absurd (e z)
 
 module _ {b : Word} (g : Good b) where
   -- before the first line no bit is set
@@ -96,22 +86,21 @@ module _ {b : Word} (g : Good b) where
     pub told-no-repeat : (Palindrome (rule_of b) (word_between b x.start x.end) → ⊥) → Told Wrong old
     told-no-repeat h = wrong-line (no-repeat (rule_of b) identifier (letters_in b) l (λ p. h (subst (Palindrome (rule_of b)) named-is p)))
 
-    module _ (p : x.agrees ≡ true) (q : x.start < x.end) (k : x.end ≤ size_in b) (row : ℕ) (u : used_in b row ≡ true) (h : 2 ≤ row)
-        (n : node_in b row ≡ spelt (word_between b x.start x.end)) (s : Palindrome (rule_of b) (word_between b x.start x.end)) where
+    module _ (p : x.agrees ≡ true) (q : x.start < x.end) (k : x.end ≤ size_in b) (row : ℕ) (is_row : IsRowOf b (word_between b x.start x.end) row) where
       palindrome : Palindrome (rule_of b) (named (letters_in b) l)
-      palindrome = subst (Palindrome (rule_of b)) (sym named-is) s
+      palindrome = subst (Palindrome (rule_of b)) (sym named-is) is_row.palindrome
 
       naming : is_naming (rule_of b) identifier (letters_in b) l ≡ true
       naming = is-naming (rule_of b) identifier (letters_in b) l (agrees-is ∙ p) (omega (arith, start_is, end_is)) (omega (arith, end_is, size_is)) palindrome
 
       row-names : node_in b row ≡ spelt (named (letters_in b) l)
-      row-names = n ∙ ap spelt (sym named-is)
+      row-names = is_row.holds ∙ ap spelt (sym named-is)
 
       in-marks : rank_in b row < 8 * length old
-      in-marks = omega (arith, rank_below g row u h, size-most g, a.long)
+      in-marks = omega (arith, rank_below g row is_row.used is_row.high, size-most g, a.long)
 
       has-bit : bit_at old (rank_in b row) ≡ member (named (letters_in b) l) before
-      has-bit = a.tells row (named (letters_in b) l) u h row-names
+      has-bit = a.tells row (named (letters_in b) l) is_row.used is_row.high row-names
 
       -- the bit is set: the repeat is named already
       told-repeated : bit_at old (rank_in b row) ≡ true → Told Repeated old
@@ -125,12 +114,12 @@ module _ {b : Word} (g : Good b) where
         where
           here : v ≡ named (letters_in b) l → bit_at (with_bit old (rank_in b row)) (rank_in b r) ≡ member v (named (letters_in b) l ∷ before)
           here f =
-              let same : r ≡ row = (covers g).one-row r row m u (cc (row-names)) in
+              let same : r ≡ row = (covers g).one-row r row m is_row.used (cc (row-names)) in
               rw (same, f) (bit-same old (rank_in b row) in-marks ∙ sym (member-first (named (letters_in b) l) before))
 
           other : (v ≡ named (letters_in b) l → ⊥) → bit_at (with_bit old (rank_in b row)) (rank_in b r) ≡ member v (named (letters_in b) l ∷ before)
           other f =
-              let apart : rank_in b r ≢ rank_in b row = λ y. f (cc (rank-only g r row m u i h y, row-names)) in
+              let apart : rank_in b r ≢ rank_in b row = λ y. f (cc (rank-only g r row m is_row.used i is_row.high y, row-names)) in
               bit-other old (rank_in b row) (rank_in b r) in-marks apart ∙ a.tells r v m i o
               ∙ sym (member-cons v (named (letters_in b) l) before
               ∙ ap (λ (t : Bool). t || member v before)

@@ -2,16 +2,13 @@
 #![tactic(auto)]
 
 ghost use Rattle.std.specs.Prelude.{◌+◌, ◌<◌};
-ghost use Rattle.store.specs.Good.{Good};
-ghost use Rattle.end_rows.specs.EndRows.{EndRows};
-ghost use Rattle.interval_rows.specs.IntervalRow.{Jumps};
 ghost use Rattle.line_marks.specs.LineMarks.{MarksLine, CountsLine};
 
 use bed_reader::Entry;
 use bitmap::mark;
-use interval_rows::row_of_interval;
+use interval_rows::IntervalRows;
 use store::header;
-use store::rows::{Row, rank_of};
+use store::rows::rank_of;
 
 // What a line is worth.
 #[derive(Clone, Copy)]
@@ -30,19 +27,16 @@ pub struct SoFar {
 }
 
 // Marks a line, and its palindrome where it is right.
-fn mark_line(b: &[u8], ends: &[u16], jumps: &[u16], marks: &mut [u8], x: Entry) -> LineMark
-    requires good { Good b.now }
-    requires end_rows { EndRows b.now ends.now × Jumps b.now jumps.now }
-    ensures { MarksLine b.now x marks.old result marks.new }
+fn mark_line(rows: IntervalRows<'_>, marks: &mut [u8], x: Entry) -> LineMark
+    ensures { MarksLine rows.entry.store.now x marks.old result marks.new }
 {
-    if !x.agrees || x.end <= x.start || header::size(b) < x.end {
+    if !x.agrees || x.end <= x.start || header::size(rows.store) < x.end {
         return LineMark::Wrong;
     }
-    let row = row_of_interval(b, ends, jumps, x.start, x.end);
-    if row == Row::IMAGINARY {
+    let Some(row) = rows.row_of_interval(x.start, x.end) else {
         return LineMark::Wrong;
-    }
-    if mark(marks, 0, rank_of(b, row)) {
+    };
+    if mark(marks, 0, rank_of(rows.store, row)) {
         LineMark::Right
     } else {
         LineMark::Repeated
@@ -50,20 +44,11 @@ fn mark_line(b: &[u8], ends: &[u16], jumps: &[u16], marks: &mut [u8], x: Entry) 
 }
 
 // Counts a line on top of those above it.
-pub fn count_line(
-    b: &[u8],
-    ends: &[u16],
-    jumps: &[u16],
-    marks: &mut [u8],
-    x: Entry,
-    above: SoFar,
-) -> SoFar
-    requires good { Good b.now }
-    requires end_rows { EndRows b.now ends.now × Jumps b.now jumps.now }
+pub fn count_line(rows: IntervalRows<'_>, marks: &mut [u8], x: Entry, above: SoFar) -> SoFar
     requires wrong_bound { above.right + above.repeated + above.wrong < 18446744073709551615 }
-    ensures { CountsLine b.now x above marks.old result marks.new }
+    ensures { CountsLine rows.entry.store.now x above marks.old result marks.new }
 {
-    match mark_line(b, ends, jumps, marks, x) {
+    match mark_line(rows, marks, x) {
         LineMark::Right => SoFar {
             right: above.right + 1,
             ..above

@@ -3,30 +3,24 @@
 
 ghost use Rattle.std.specs.Prelude.{◌≡◌, replicate};
 ghost use Rattle.store.specs.Good.{Good};
-ghost use Rattle.end_rows.specs.EndRows.{EndRows};
-ghost use Rattle.interval_rows.specs.IntervalRow.{Jumps};
 ghost use Rattle.marking.specs.SheetMarks.{marks_of};
 
 use bed_reader::{find_byte, parse};
 use end_rows::rows_at_ends;
-use interval_rows::fill_jumps;
+use interval_rows::{IntervalRows, fill_jumps};
 use line_marks::{SoFar, count_line};
 use store::header;
 use tally::Tally;
 
 // Marks a sheet's lines, with marks that begin empty: what the sheet is worth, if it is one.
 fn mark_lines(
-    b: &[u8],
-    ends: &[u16],
-    jumps: &[u16],
+    rows: IntervalRows<'_>,
     marks: &mut [u8],
     identifier: &[u8],
     sheet: &[u8],
 ) -> Option<Tally>
-    requires good { Good b.now }
-    requires end_rows { EndRows b.now ends.now × Jumps b.now jumps.now }
     requires marks_value { marks.old ≡ replicate 128 0 }
-    ensures { result ≡ marks_of b.now identifier.now sheet.now }
+    ensures { result ≡ marks_of rows.entry.store.now identifier.now sheet.now }
 {
     let mut above = SoFar {
         right: 0,
@@ -40,14 +34,14 @@ fn mark_lines(
             return None;
         }
         let x = parse(&sheet[at..stop], identifier)?;
-        above = count_line(b, ends, jumps, marks, x, above);
+        above = count_line(rows, marks, x, above);
         at = stop + 1;
     }
     Some(Tally {
         right: above.right,
         repeated: above.repeated,
         wrong: above.wrong,
-        missing: header::count(b) as u64 - above.right,
+        missing: header::count(rows.store) as u64 - above.right,
     })
 }
 
@@ -70,5 +64,10 @@ pub fn mark_sheet(b: &[u8], identifier: &[u8], sheet: &[u8]) -> Option<Tally>
     let mut marks = [0u8; 128];
     rows_at_ends(b, &mut ends);
     fill_jumps(b, &ends, &mut jumps);
-    mark_lines(b, &ends, &jumps, &mut marks, identifier, sheet)
+    let rows = IntervalRows {
+        store: b,
+        ends: &ends,
+        jumps: &jumps,
+    };
+    mark_lines(rows, &mut marks, identifier, sheet)
 }
