@@ -6,3 +6,4 @@ pub mod Facing
 pub mod Stores
 pub mod Reading
 pub mod Links
+pub mod Replaying
