@@ -13,9 +13,9 @@ use partners::{of_letter, of_letters};
 use store::letters::Side;
 use store::rows::Row;
 
-// How far a replay of a store is: the frame and the partners that it reads with, which it takes once
-// and not for each letter, how many letters it has read, and the row of the longest palindrome that
-// ends those.
+// How far a replay of a store is: the frame and the partners that it reads with, taken once and not
+// for each letter, how many letters it has read, and the row of the longest palindrome that ends
+// those.
 #[derive(Drop)]
 pub struct Replay<'a> {
     store: &'a [u8],
