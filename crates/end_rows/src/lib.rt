@@ -7,10 +7,7 @@ ghost use Rattle.store.specs.Layout.{size_in};
 ghost use Rattle.store.specs.Good.{Good};
 ghost use Rattle.end_rows.specs.EndRows.{EndRows};
 
-use partners::of_letters;
-use store::rows::Row;
-use walk::frame::frame_of;
-use walk::replay;
+use walk::replay::Replay;
 
 // Puts at place k the row of the longest palindrome that ends the first k + 1 letters.
 pub fn rows_at_ends(b: &[u8], ends: &mut [u16])
@@ -18,11 +15,7 @@ pub fn rows_at_ends(b: &[u8], ends: &mut [u16])
     requires b_in_bounds { size_in b.now ≤ length ends.old }
     ensures { EndRows b.now ends.new }
 {
-    let f = frame_of(b);
-    let partners = of_letters(f.reading);
-    let mut row = Row::EMPTY;
-    for (k, end) in ends[..f.n].iter_mut().enumerate() {
-        row = replay::next(b, f, &partners, k, row);
-        *end = row as u16;
+    for (k, row) in Replay::new(b) {
+        ends[k] = row as u16;
     }
 }

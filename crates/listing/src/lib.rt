@@ -15,12 +15,9 @@ ghost use Rattle.listing.specs.Reading.{SameBehind, ReadTo};
 
 use bed::{line_length, put_line};
 use meeting::meet;
-use partners::of_letters;
 use spelling::spelling_length;
-use store::rows::Row;
 use store::{bytes, header};
-use walk::frame::frame_of;
-use walk::replay;
+use walk::replay::Replay;
 
 // How many bytes of scratch the list needs: a bit for each letter, in whole bytes.
 pub fn scratch_size(b: &[u8]) -> usize
@@ -37,13 +34,9 @@ fn window_length(b: &[u8], name: &[u8], from: usize) -> usize
     requires name_value { is_identifier name.now ≡ true }
     ensures { result + length_below b.now name.now from (size_in b.now) ≡ length_below b.now name.now (from + 344) (size_in b.now) }
 {
-    let f = frame_of(b);
-    let partners = of_letters(f.reading);
     let mut marks = [0u8; 43];
-    let mut row = Row::EMPTY;
     let mut total = 0;
-    for k in 0..f.n {
-        row = replay::next(b, f, &partners, k, row);
+    for (k, row) in Replay::new(b) {
         if meet(b, &mut marks, from, row) {
             let end = k + 1;
             total += line_length(name, end - spelling_length(b, row), end);
@@ -76,12 +69,8 @@ fn put_lines(b: &[u8], name: &[u8], marks: &mut [u8], out: &mut [u8]) -> usize
     ensures behind { result ≡ length (listing_in b.now name.now) }
     ensures kept { SameBehind (scratch_size (size_in b.now)) marks.old marks.new }
 {
-    let f = frame_of(b);
-    let partners = of_letters(f.reading);
-    let mut row = Row::EMPTY;
     let mut at = 0;
-    for k in 0..f.n {
-        row = replay::next(b, f, &partners, k, row);
+    for (k, row) in Replay::new(b) {
         if meet(b, marks, 0, row) {
             let end = k + 1;
             at = put_line(out, at, name, end - spelling_length(b, row), end);

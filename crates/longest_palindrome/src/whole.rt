@@ -4,11 +4,8 @@ ghost use Rattle.palindromes.specs.Record.{longest_length, longest_place};
 ghost use Rattle.store.specs.Layout.{letters_in};
 ghost use Rattle.store.specs.Good.{rule_of, Good};
 
-use partners::of_letters;
 use spelling::spelling_length;
-use store::rows::Row;
-use walk::frame::frame_of;
-use walk::replay;
+use walk::replay::Replay;
 
 // A length and a place, both 0 where the record has no palindrome.
 #[derive(Clone, Copy)]
@@ -24,13 +21,9 @@ pub fn longest(b: &[u8]) -> LongestAnswer
     ensures length { result.length ≡ longest_length (rule_of b.now) (letters_in b.now) }
     ensures place { result.place ≡ longest_place (rule_of b.now) (letters_in b.now) }
 {
-    let f = frame_of(b);
-    let partners = of_letters(f.reading);
-    let mut row = Row::EMPTY;
     let mut length = 0;
     let mut place = 0;
-    for k in 0..f.n {
-        row = replay::next(b, f, &partners, k, row);
+    for (k, row) in Replay::new(b) {
         let here = spelling_length(b, row);
         if length < here {
             length = here;

@@ -12,11 +12,9 @@ ghost use Rattle.store.specs.Good.{rule_of, node_in, Good};
 ghost use Rattle.end_rows.specs.EndRows.{EndRows};
 ghost use Rattle.suffix_palindromes.specs.Handed.{ending_with, chain_length, Hands};
 
-use partners::of_letters;
 use store::rows::Row;
 use store::{header, rows};
-use walk::frame::frame_of;
-use walk::replay;
+use walk::replay::Replay;
 
 // Marks the wanted row with 1 and any other as its link is marked, so that the mark tells whether
 // the wanted row's palindrome ends the row's own; answers it, and 0 for a root.
@@ -44,13 +42,9 @@ pub fn frequency(b: &[u8], row: usize) -> usize
     requires row_value { (used_in b.now row ≡ true) × (2 ≤ row) }
     ensures { result ≡ frequency (spelling_of (node_in b.now row)) (letters_in b.now) }
 {
-    let f = frame_of(b);
-    let partners = of_letters(f.reading);
     let mut marks = [0u8; 1026];
-    let mut last = Row::EMPTY;
     let mut total = 0;
-    for k in 0..f.n {
-        last = replay::next(b, f, &partners, k, last);
+    for (_, last) in Replay::new(b) {
         total += mark(b, &mut marks, row, last);
     }
     total

@@ -10,11 +10,9 @@ ghost use Rattle.store.specs.Good.{Good};
 ghost use Rattle.end_rows.specs.EndRows.{FirstRows};
 ghost use Rattle.unique_rows.specs.Marks.{Marks, Meets};
 
-use partners::of_letters;
 use store::rows;
 use store::rows::Row;
-use walk::frame::frame_of;
-use walk::replay;
+use walk::replay::Replay;
 
 // Marks a row that is met at a right end, and answers whether its palindrome is new there.
 fn meet(b: &[u8], marks: &mut [u8], row: usize) -> bool
@@ -41,18 +39,14 @@ pub fn mark_rows(b: &[u8], firsts: &mut [u16], marks: &mut [u8])
     ensures first { FirstRows b.now firsts.new }
     ensures marked { Marks b.now (size_in b.now) marks.new }
 {
-    let f = frame_of(b);
-    let partners = of_letters(f.reading);
     marks[Row::IMAGINARY] = 2;
     marks[Row::EMPTY] = 2;
-    let mut row = Row::EMPTY;
-    for (k, first) in firsts[..f.n].iter_mut().enumerate() {
-        row = replay::next(b, f, &partners, k, row);
+    for (k, row) in Replay::new(b) {
         let new = if meet(b, marks, row) {
             row
         } else {
             Row::IMAGINARY
         };
-        *first = new as u16;
+        firsts[k] = new as u16;
     }
 }

@@ -7,3 +7,4 @@ pub mod Facing
 pub mod Stores
 pub mod Reading
 pub mod Links
+pub mod Replaying
