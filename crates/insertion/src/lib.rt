@@ -19,6 +19,7 @@ use store::{header, rows};
 use walk::frame;
 
 // Writes row r, hangs it at the edge of its inner row, and counts it.
+#[tactic(auto, unfolding(store::specs::Writes::writes))]
 fn hang(b: &mut [u8], r: usize, row: Row, count: usize)
     requires in_bounds { (48 ≤ length b.old) × (24 * r + 24 ≤ length b.old) × (24 * row.inner + 24 ≤ length b.old) }
     requires count_bound { (count < 65536) × Stored row.length }

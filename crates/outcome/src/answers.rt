@@ -33,6 +33,7 @@ pub enum Found {
 }
 
 // The answer of an addition.
+#[tactic(auto, unfolding(crate::specs::Answers::added_reply, crate::specs::Reply::accepted))]
 pub fn answer_added(added: Added) -> u64
     requires { ((added_reply added).row < 65536) × ((added_reply added).first < 65536) }
     ensures { result ≡ packed (added_reply added) }
@@ -55,6 +56,7 @@ pub fn answer_removed(removed: Removed) -> u64
 }
 
 // The answer of a search.
+#[tactic(auto, unfolding(crate::specs::Answers::found_answer, crate::specs::Reply::accepted))]
 pub fn answer_found(found: Found) -> u64
     requires { ((found_reply found).row < 65536) × ((found_reply found).first < 65536) }
     ensures { result ≡ packed (found_reply found) }
