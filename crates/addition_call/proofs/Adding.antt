@@ -25,7 +25,7 @@ use Rattle.outcome.specs.declared.answers.Added.{Added}
 use Rattle.outcome.specs.Reply.{packed, accepted}
 use Rattle.outcome.specs.Answers.{added_of, added_reply}
 use Rattle.outcome.specs.Outcome.{view_in, accepted_outcome, changed}
-use Rattle.outcome.specs.Promise.{nothing, Promise, FreeRow}
+use Rattle.outcome.specs.Promise.{nothing, Promise}
 use Rattle.outcome.specs.Verdict.{Verdict, judged}
 use Rattle.outcome.proofs.Refusals.{add-letter, add-full, add-accepted}
 use Rattle.outcome.proofs.Promises.{cleared, carried, add-cleared}
@@ -95,7 +95,3 @@ added e c b a h q p s = carried (add e c) b nothing h.good h.clear (record { rep
     go : (t : Bool) → added_of t (free_row b) (reported_steps (reading_in b) e c (letters_in b)) ≡ added_of t (cond t (free_row b) (row_of b (spelt (longest_after e c b)))) (reported_steps (reading_in b) e c (letters_in b))
     go true = refl
     go false = refl
-
--- what holds of the end that a side is holds of the end named; said so, a side named wrongly shows as two ends that differ
-pub at-end : {d e : End} {c : ℕ} {b : Word} {r : ℕ} {b' : Word} → Promise (add d c) b nothing r b' nothing × FreeRow d c b → d ≡ e → Promise (add e c) b nothing r b' nothing × FreeRow e c b
-at-end {c = c} {b} {r} {b'} h p = subst (λ (e : End). Promise (add e c) b nothing r b' nothing × FreeRow e c b) p h

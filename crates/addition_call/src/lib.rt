@@ -1,53 +1,45 @@
-// The host's calls that add a letter, at either end. Each tests its store and its letter, asks nothing
-// of the caller, and leaves every byte as the outcome of the call says.
+// The host's call that adds a letter, at either end. It tests its store and its letter, asks
+// nothing of the caller, and leaves every byte as the outcome of the call says.
 #![tactic(auto)]
 
 ghost use Rattle.std.specs.Prelude.{◌≡◌, ◌≤◌, length};
 ghost use Rattle.palindromes.specs.Word.{is_letter};
-ghost use Rattle.palindromes.specs.End.{at_left, at_right};
 ghost use Rattle.palindromes.specs.Refusal.{add};
 ghost use Rattle.store.specs.Layout.{reading_in};
 ghost use Rattle.store.specs.Side.{end_of};
 ghost use Rattle.outcome.specs.Promise.{nothing, Promise, FreeRow};
-ghost use Rattle.outcome.specs.Verdict.{Verdict};
+ghost use Rattle.outcome.specs.Verdict.{Verdict, judged_number};
 ghost use Rattle.addition_call.specs.Reported.{reports_in, reported_of};
 
 use filling::fill;
 use outcome::answers::Added;
 use outcome::{answers, refuse};
+use refusal::Refusal;
 use store::header;
 use store::letters::Side;
 
-// Whether a host's number is one of the four letters.
+// Whether a host's number is one of the four letters. One that no byte holds is none: cut to a byte
+// before the test, 321 would be taken for A.
 fn is_letter(c: u64) -> bool
     ensures { result ≡ is_letter c }
 {
-    if c == 65 {
-        return true;
-    }
-    if c == 67 {
-        return true;
-    }
-    if c == 71 {
-        return true;
-    }
-    c == 84
+    u8::try_from(c).is_ok_and(alphabet::is_letter)
 }
 
-// The refusal number of an addition, 0 where it can be carried out.
-fn judge_add(store: &[u8], side: Side, letter: u64) -> u64
-    ensures { Verdict (add (end_of side) letter) store.now nothing result }
+// Why a letter cannot be added, if it cannot.
+fn judge_add(store: &[u8], side: Side, letter: u64) -> Result<(), Refusal>
+    ensures { Verdict (add (end_of side) letter) store.now nothing (judged_number result) }
 {
     if !audit::is_good(store) {
-        return 3;
+        return Err(Refusal::Damaged);
     }
     if !is_letter(letter) {
-        return 4;
+        return Err(Refusal::NoLetter);
     }
     if header::capacity(store) <= header::size(store) {
-        return 5;
+        return Err(Refusal::TooManyLetters);
     }
-    0
+    Ok(())
 }
 
 // Whether an addition reports how much its search passed: at the right end of a plain record, whose
@@ -76,32 +68,16 @@ fn reported(told: bool, added: Added) -> Added
 }
 
 // Adds a letter at a side: 1 and the new row, or 0 and row 0, and what the search passed.
-fn add_letter(store: &mut [u8], side: Side, letter: u64) -> u64
+pub fn add(store: &mut [u8], side: Side, letter: u64) -> u64
     ensures promise { Promise (add (end_of side) letter) store.old nothing result store.new nothing }
     ensures free { FreeRow (end_of side) letter store.old }
 {
-    let number = judge_add(store, side, letter);
-    if number != 0 {
-        return refuse(number);
+    match judge_add(store, side, letter) {
+        Ok(()) => {
+            let told = reports(store, side);
+            let added = fill(store, side, &[letter as u8]);
+            answers::answer_added(reported(told, added))
+        }
+        Err(refusal) => refuse(refusal),
     }
-    let told = reports(store, side);
-    let letters = [letter as u8];
-    let added = fill(store, side, &letters);
-    answers::answer_added(reported(told, added))
-}
-
-// Adds a letter at the left end.
-pub fn add_left(store: &mut [u8], letter: u64) -> u64
-    ensures promise { Promise (add at_left letter) store.old nothing result store.new nothing }
-    ensures free { FreeRow at_left letter store.old }
-{
-    add_letter(store, Side::Left, letter)
-}
-
-// Adds a letter at the right end.
-pub fn add_right(store: &mut [u8], letter: u64) -> u64
-    ensures promise { Promise (add at_right letter) store.old nothing result store.new nothing }
-    ensures free { FreeRow at_right letter store.old }
-{
-    add_letter(store, Side::Right, letter)
 }

@@ -9,6 +9,7 @@ use mathlib.Core.Bool.{Bool, true, false, ◌&&◌}
 use mathlib.Core.Logic.{⊎_elim}
 use lib.Dec.{leb, ltb}
 use borrow.Author.Tests.{le-leb, leb-true, lt-ltb}
+use Rattle.std.specs.Prelude.{Some}
 use Rattle.palindromes.specs.Word.{Word, is_letter}
 use Rattle.palindromes.specs.End.{End, at_left, at_right}
 use Rattle.palindromes.specs.Node.{spelt, around}
@@ -33,7 +34,6 @@ use Rattle.audit_rows.proofs.Edges.{leads-nowhere}
 use Rattle.audit_rows.proofs.Filled.{unfilled-cells}
 use Rattle.audit_rows.proofs.Letters.{four-most, four_same}
 use Rattle.audit.specs.Examined.{Started, EndsRight, Examined}
-use Rattle.audit.specs.declared.Finding.TheVariants.{Sound}
 use Rattle.audit.proofs.Marked.{marked_by, leads_back, back-says, back-leads, marked-used, marked-filled, met-letters, back-least, back-most}
 
 -- a row that is no root is in use
@@ -140,7 +140,7 @@ module _ {b marks carried : Word} {t : Tour} (s : Started b) (a : Toured b marks
   table-end at_left = record { used = rw ends.left (a.used t.left (a.ends at_left).row-used); holds = rw ends.left (a.ends at_left).row-holds }
   table-end at_right = record { used = rw ends.right (a.used t.row (a.ends at_right).row-used); holds = rw ends.right (a.ends at_right).row-holds }
 
-  pub passed-good : Examined b (Sound t)
+  pub passed-good : Examined b (Some t)
   passed-good = (
     record {
       sized = s.header.sized;

@@ -12,81 +12,52 @@ ghost use Rattle.audit_fixed.specs.Decides.{Decides};
 ghost use Rattle.audit.specs.Examined.{Started, EndsRight, Examined};
 
 use audit_lengths::counted_at;
-use audit_tour::{Tour, Visit};
+use audit_tour::Tour;
 use store::header;
 use store::letters::Side;
-
-// What a test comes to: the store is good, and what the reading of its letters told of its ends is told on; or it is not.
-#[derive(Clone, Copy)]
-pub enum Finding {
-    Sound(Tour),
-    Damaged,
-}
 
 // Whether the tour can start: all that is tested before it.
 fn can_start(b: &[u8]) -> bool
     ensures { Decides result (Started b.now) }
 {
-    if !audit_fixed::sized(b) {
-        return false;
-    }
-    if !audit_fixed::letters_right(b) {
-        return false;
-    }
-    if !audit_fixed::places_free(b) {
-        return false;
-    }
-    audit_fixed::roots_right(b)
+    audit_fixed::sized(b)
+        && audit_fixed::letters_right(b)
+        && audit_fixed::places_free(b)
+        && audit_fixed::roots_right(b)
 }
 
 // Whether the header has what the tour found: the number of palindromes, the rows of both ends and the largest length.
+#[tactic(auto, unfolding(palindromes::specs::Refusal::store_size))]
 fn ends_right(b: &[u8], carried: &[u16], tour: Tour) -> bool
     requires { Sized b.now × (length carried.now ≡ 1026) }
     ensures { Decides result (EndsRight b.now carried.now tour) }
 {
-    if header::count(b) != tour.met {
-        return false;
-    }
-    if header::end_row(b, Side::Left) != tour.left {
-        return false;
-    }
-    if header::end_row(b, Side::Right) != tour.row {
-        return false;
-    }
-    if header::longest(b) != counted_at(carried, 1) {
-        return false;
-    }
-    true
+    header::count(b) == tour.met
+        && header::end_row(b, Side::Left) == tour.left
+        && header::end_row(b, Side::Right) == tour.row
+        && header::longest(b) == counted_at(carried, 1)
 }
 
-// Tests the store.
-pub fn examine(b: &[u8]) -> Finding
+// Tests the store: what the reading of its letters told of its ends, or none where the store is not good.
+pub fn examine(b: &[u8]) -> Option<Tour>
     ensures { Examined b.now result }
 {
     if !can_start(b) {
-        return Finding::Damaged;
+        return None;
     }
     let mut marks = [0u8; 1026];
     let mut carried = [0u16; 1026];
-    let Visit::Next(tour) = audit_tour::replay(b, &mut marks, &mut carried) else {
-        return Finding::Damaged;
-    };
-    if !ends_right(b, &carried, tour) {
-        return Finding::Damaged;
+    let tour = audit_tour::replay(b, &mut marks, &mut carried)?;
+    if ends_right(b, &carried, tour) && audit_rows::rows_right(b, &carried, tour.met) {
+        Some(tour)
+    } else {
+        None
     }
-    if !audit_rows::rows_right(b, &carried, tour.met) {
-        return Finding::Damaged;
-    }
-    Finding::Sound(tour)
 }
 
 // Whether the store is good.
 pub fn is_good(b: &[u8]) -> bool
     ensures { Decides result (Good b.now) }
 {
-    let found = examine(b);
-    match found {
-        Finding::Sound(_) => true,
-        Finding::Damaged => false,
-    }
+    examine(b).is_some()
 }

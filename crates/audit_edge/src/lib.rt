@@ -9,7 +9,6 @@ ghost use Rattle.walk.specs.Frame.{partner_in};
 ghost use Rattle.audit_fixed.specs.Decides.{Decides};
 ghost use Rattle.audit_edge.specs.Edge.{PointsBack, Walkable, LinkFound, NewRow};
 
-use store::cells::wide;
 use store::lengths::plus_two;
 use store::letters::Side;
 use store::rows::Row;
@@ -17,23 +16,15 @@ use store::{header, rows};
 use walk::frame::Frame;
 
 // Whether row q is one of the table that names row u and the letter d as what it is made of.
+#[tactic(auto, unfolding(palindromes::specs::Refusal::store_size))]
 pub fn points_back(b: &[u8], u: usize, d: u8, q: usize) -> bool
     requires { Sized b.now }
     ensures { Decides result (PointsBack b.now u d q) }
 {
-    if q < 2 {
-        return false;
-    }
-    if header::capacity(b) + 2 <= q {
-        return false;
-    }
-    if rows::inner_of(b, q) != u {
-        return false;
-    }
-    if rows::outer_of(b, q) != wide(d) {
-        return false;
-    }
-    true
+    2 <= q
+        && q < header::capacity(b) + 2
+        && rows::inner_of(b, q) == u
+        && rows::outer_of(b, q) == usize::from(d)
 }
 
 // Whether row q is longer than row u by a letter on either side.
@@ -43,10 +34,7 @@ pub fn longer_by_two(b: &[u8], u: usize, q: usize) -> bool
 {
     let around = plus_two(rows::length_of(b, u));
     let length = rows::length_of(b, q);
-    if length != around {
-        return false;
-    }
-    true
+    length == around
 }
 
 // The row of the link of what d, whose partner is `want`, makes of row u, k letters read.
@@ -69,14 +57,7 @@ pub fn new_row_right(b: &[u8], f: Frame, k: usize, u: usize, d: u8, want: u8, q:
     requires want_value { want ≡ partner_in f d }
     ensures { NewRow b.now k d u q result }
 {
-    if !longer_by_two(b, u, q) {
-        return false;
-    }
-    if header::count(b) <= rows::rank_of(b, q) {
-        return false;
-    }
-    if rows::link_of(b, q) != link_found(b, f, k, u, d, want) {
-        return false;
-    }
-    true
+    longer_by_two(b, u, q)
+        && rows::rank_of(b, q) < header::count(b)
+        && rows::link_of(b, q) == link_found(b, f, k, u, d, want)
 }

@@ -2,7 +2,7 @@
 // after them and the roots.
 #![tactic(auto)]
 
-ghost use Rattle.std.specs.Prelude.{◌≡◌, true, ◌<◌};
+ghost use Rattle.std.specs.Prelude.{◌≡◌, true, ◌<◌, ◌↔◌, IsTrue, slice_index, EachIndex};
 ghost use Rattle.palindromes.specs.Word.{all_letters};
 ghost use Rattle.store.specs.Layout.{letters_in};
 ghost use Rattle.store.specs.Good.{Sized};
@@ -15,6 +15,7 @@ use store::{header, rows};
 use walk::frame::frame_of;
 
 // Whether the store has the sizes that its header names, and one of the two readings.
+#[tactic(auto, unfolding(palindromes::specs::Refusal::store_size))]
 pub fn sized(b: &[u8]) -> bool
     ensures { Decides result (HeaderRight b.now) }
 {
@@ -22,22 +23,11 @@ pub fn sized(b: &[u8]) -> bool
         return false;
     }
     let capacity = header::capacity(b);
-    if capacity < 1 {
-        return false;
-    }
-    if 1024 < capacity {
-        return false;
-    }
-    if b.len() < 48 * capacity + 256 {
-        return false;
-    }
-    if capacity < header::size(b) {
-        return false;
-    }
-    if 1 < header::reading(b) {
-        return false;
-    }
-    true
+    1 <= capacity
+        && capacity <= 1024
+        && 48 * capacity + 256 <= b.len()
+        && header::size(b) <= capacity
+        && header::reading(b) <= 1
 }
 
 // Whether every letter is one.
@@ -51,6 +41,13 @@ pub fn letters_right(b: &[u8]) -> bool
     all_letters(&b[base..end])
 }
 
+// Whether all of these bytes are zero.
+fn all_zero(bytes: &[u8]) -> bool
+    ensures { IsTrue result ↔ EachIndex bytes.now (λ k. slice_index bytes.now k ≡ 0) }
+{
+    bytes.iter().all(|x| *x == 0)
+}
+
 // Whether the places after the last letter are zero.
 pub fn places_free(b: &[u8]) -> bool
     requires { Sized b.now }
@@ -58,37 +55,21 @@ pub fn places_free(b: &[u8]) -> bool
 {
     let frame = frame_of(b);
     let base = frame.base;
-    let capacity = frame.capacity;
-    let mut i = frame.n;
-    while i < capacity {
-        if b[base + i] != 0 {
-            return false;
-        }
-        i += 1;
-    }
-    true
+    all_zero(&b[base + frame.n..base + frame.capacity])
 }
 
 // Whether row r, edges apart, is that of a root of the given length: both roots have the imaginary
 // string for their link and their inner row, and no letter.
+#[tactic(auto, unfolding(palindromes::specs::Refusal::store_size))]
 pub fn root_right(b: &[u8], r: usize, length: i32) -> bool
     requires sized { Sized b.now }
     requires r_bound { r < 2 }
     ensures { Decides result (RootRight b.now r length) }
 {
-    if rows::length_of(b, r) != length {
-        return false;
-    }
-    if rows::link_of(b, r) != Row::IMAGINARY {
-        return false;
-    }
-    if rows::inner_of(b, r) != Row::IMAGINARY {
-        return false;
-    }
-    if rows::outer_of(b, r) != 0 {
-        return false;
-    }
-    true
+    rows::length_of(b, r) == length
+        && rows::link_of(b, r) == Row::IMAGINARY
+        && rows::inner_of(b, r) == Row::IMAGINARY
+        && rows::outer_of(b, r) == 0
 }
 
 // Whether the rows of the roots are as fixed, edges apart.
@@ -96,11 +77,6 @@ pub fn roots_right(b: &[u8]) -> bool
     requires { Sized b.now }
     ensures { Decides result (RootsRight b.now) }
 {
-    if !root_right(b, Row::IMAGINARY, Row::IMAGINARY_LENGTH) {
-        return false;
-    }
-    if !root_right(b, Row::EMPTY, Row::EMPTY_LENGTH) {
-        return false;
-    }
-    true
+    root_right(b, Row::IMAGINARY, Row::IMAGINARY_LENGTH)
+        && root_right(b, Row::EMPTY, Row::EMPTY_LENGTH)
 }

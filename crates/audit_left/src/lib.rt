@@ -17,10 +17,7 @@ fn begins(size: i32, k: usize, ends: usize, before: usize) -> usize
     ensures { (n : ℕ) → size ≡ pos n → result ≡ cond (eqb n k) ends before }
 {
     let all = k as i32;
-    if size == all {
-        return ends;
-    }
-    before
+    if size == all { ends } else { before }
 }
 
 // Whether the palindrome of `row`, which begins the letters, stands in them again: it did before, or now ends them. Inside a
@@ -28,10 +25,7 @@ fn begins(size: i32, k: usize, ends: usize, before: usize) -> usize
 fn stands_again(ends: usize, row: usize, again: bool) -> bool
     ensures { result ≡ (eqb ends row || again) }
 {
-    if ends == row {
-        return true;
-    }
-    again
+    ends == row || again
 }
 
 // The left end at a row q that was met before, of the longest palindrome that ends the letters with one more: it is neither
@@ -40,9 +34,8 @@ pub fn left_known(q: usize, left: Reach) -> Reach
     ensures { (result.row ≡ left.row) × (result.short ≡ left.short) × (result.again ≡ (eqb q left.row || left.again)) }
 {
     Reach {
-        row: left.row,
-        short: left.short,
         again: stands_again(q, left.row, left.again),
+        ..left
     }
 }
 
@@ -64,10 +57,8 @@ pub fn left_new(b: &[u8], k: usize, q: usize, left: Reach) -> Reach
             again: false,
         };
     }
-    let short = begins(size, k, q, left.short);
     Reach {
-        row: left.row,
-        short,
-        again: left.again,
+        short: begins(size, k, q, left.short),
+        ..left
     }
 }

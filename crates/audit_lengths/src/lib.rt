@@ -17,16 +17,7 @@ pub fn count_row(b: &[u8], carried: &mut [u16], q: usize)
     let place = lengths::to_stored(rows::length_of(b, q));
     carried[place] += 1;
     let length = (place - 1) as u16;
-    if carried[1] < length {
-        carried[1] = length;
-    }
-}
-
-// A number as an index.
-fn wide(x: u16) -> usize
-    ensures { (result ≡ x) × (result < 65536) }
-{
-    x as usize
+    carried[1] = carried[1].max(length);
 }
 
 // What was counted at a place.
@@ -34,5 +25,5 @@ pub fn counted_at(carried: &[u16], place: usize) -> usize
     requires { place < length carried.now }
     ensures { result ≡ get_or carried.now place 0 }
 {
-    wide(carried[place])
+    usize::from(carried[place])
 }

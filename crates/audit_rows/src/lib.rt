@@ -14,14 +14,12 @@ use audit_lengths::counted_at;
 use store::{cells, header, rows};
 
 // 1 if the edge of row r by c leads to a row, and else 0.
+#[tactic(auto, unfolding(crate::specs::Rows::leads_from))]
 fn leads(b: &[u8], r: usize, c: u8) -> usize
     requires { 24 * r + 24 ≤ length b.now }
     ensures { (result ≡ one (leads_from b.now c r)) × (result ≤ 1) }
 {
-    if rows::edge_of(b, r, c) != 0 {
-        return 1;
-    }
-    0
+    usize::from(rows::edge_of(b, r, c) != 0)
 }
 
 // How many edges of row r lead to a row.
@@ -40,54 +38,37 @@ fn says(b: &[u8], r: usize) -> usize
 {
     let low = cells::get(b, r, 0) + 65536 * cells::get(b, r, 1);
     let high = cells::get(b, r, 2) + 65536 * cells::get(b, r, 3);
-    if low + 4294967296 * high != 0 {
-        return 1;
-    }
-    0
+    usize::from(low + 4294967296 * high != 0)
 }
 
 // Whether row r has a place of the order that names it, and carries the number that was counted.
+#[tactic(auto, unfolding(palindromes::specs::Refusal::store_size))]
 fn row_right(b: &[u8], carried: &[u16], capacity: usize, r: usize) -> bool
     requires { RowAt b.now carried.now capacity r }
     ensures { Decides result (RowRight b.now carried.now r) }
 {
     let rank = rows::rank_of(b, r);
-    if capacity <= rank {
-        return false;
-    }
-    if rows::order_of(b, rank) != r {
-        return false;
-    }
-    if cells::get(b, r, 10) != counted_at(carried, r) {
-        return false;
-    }
-    true
+    rank < capacity
+        && rows::order_of(b, rank) == r
+        && cells::get(b, r, 10) == counted_at(carried, r)
 }
 
 // Whether every row is right, and as many edges lead to a row, and as many rows say anything, as were met.
+#[tactic(auto, unfolding(palindromes::specs::Refusal::store_size))]
 pub fn rows_right(b: &[u8], carried: &[u16], met: usize) -> bool
     requires sized { Sized b.now }
     requires carried_len { length carried.now ≡ 1026 }
     ensures { Decides result (RowsRight b.now carried.now met) }
 {
     let capacity = header::capacity(b);
-    let end = capacity + 2;
     let mut edges = edges_of(b, 0) + edges_of(b, 1);
     let mut said = 0;
-    let mut r = 2;
-    while r < end {
+    for r in 2..capacity + 2 {
         if !row_right(b, carried, capacity, r) {
             return false;
         }
         edges += edges_of(b, r);
         said += says(b, r);
-        r += 1;
     }
-    if edges != met {
-        return false;
-    }
-    if said != met {
-        return false;
-    }
-    true
+    edges == met && said == met
 }

@@ -14,6 +14,7 @@ use lib.IntN.{pos, pred_ℤ}
 use lib.ListN.{length, get_or, drop, set, length-append, length-set, take-append-drop}
 use lib.Seq.{length-take-le, take-suc}
 use borrow.Author.Tests.{eqb-true, eq-eqb, lt-ltb}
+use Rattle.std.specs.Prelude.{Option, Some, None}
 use Rattle.palindromes.specs.Word.{Word, is_letter}
 use Rattle.palindromes.specs.Palindrome.{Symmetric}
 use Rattle.palindromes.specs.Place.{Stands, Suffix, stands}
@@ -42,8 +43,6 @@ use Rattle.store.proofs.Sizes.{letters-length}
 use Rattle.walk.specs.Frame.{Frames}
 use Rattle.walk.specs.Walk.{Chain, Meets, Stepped, grown, ended, Found}
 use Rattle.walk.specs.declared.frame.Frame.{Frame}
-use Rattle.walk.specs.declared.Walked.{Walked}
-use Rattle.walk.specs.declared.Walked.TheVariants.{At, Nothing}
 use Rattle.walk.proofs.Found.{stored-reach, chain, meets-longest, meets-link}
 use Rattle.walk.proofs.Stores.{rows_fit}
 use Rattle.transitions.proofs.Rows.{covers, used-root, used-is, used-rank, row_fits, length-row}
@@ -58,9 +57,8 @@ use Rattle.audit_edge.specs.Edge.{PointsBack, Walkable, LinkFound, alone, within
 use Rattle.audit_edge.proofs.Edge.{good-names}
 use Rattle.audit_lengths.specs.Lengths.{LengthsOf, Countable, Counted}
 use Rattle.audit_lengths.proofs.Lengths.{lengths-empty, lengths-same, lengths-more, count_small}
-use Rattle.audit_tour.specs.Tour.{Ready, read_in, met_in, marked_row, Blank, reach_at, Toured, Arrived, Reading, Grows, Visited}
+use Rattle.audit_tour.specs.Tour.{Ready, read_in, met_in, marked_row, Blank, reach_at, Toured, Arrived, Reading, Grows}
 use Rattle.audit_tour.specs.declared.Tour.{Tour}
-use Rattle.audit_tour.specs.declared.Visit.{Visit}
 use Rattle.audit_tour.proofs.Marks.{met-root, met-marked, met-unmarked, blank-met, met-set, none-marked, one-marked}
 
 -- ---- words
@@ -169,12 +167,6 @@ module _ {b marks carried : Word} (z : Ready b) (n : Blank marks) (y : Blank car
       by_end l r at_left = l
       by_end l r at_right = r
 
--- ---- what the code goes by
-
--- how a tour stands, by the answer that it gave
-pub led : (b marks carried p : Word) (r s : Visit) → Visited b marks carried p r → r ≡ s → Visited b marks carried p s
-led b marks carried p r s v e = subst (Visited b marks carried p) e v
-
 -- ---- a letter
 
 module _ {b marks carried : Word} {k : ℕ} {t : Tour} (s : Reading b marks carried k t) where
@@ -217,17 +209,17 @@ module _ {b marks carried : Word} {k : ℕ} {t : Tour} (s : Reading b marks carr
           ends at_right = rw x.right_is (right-after (read_in b k) d u f v (s.toured.ends at_right).row-holds a)
 
     -- the walk finds a row to grow, or none
-    module _ {n : ℕ} {o : Walked} (m : Meets b (letters_in b) k d (rule_of b d) t.row n o) where
+    module _ {n : ℕ} {o : Option ℕ} (m : Meets b (letters_in b) k d (rule_of b d) t.row n o) where
       found : Found (rule_of b) (met_in marks) (node_in b) (read_in b k) d o
       unfolding longest_at
       found = meets-longest b s.toured.covers (rule-inverse (reading_in b)) (letters_in b) k d (omega (arith, letters-more)) t.row n o (s.toured.ends at_right).row-used (s.toured.ends at_right).row-holds m
 
-      pub tour-grows : (u : ℕ) → o ≡ At u → Grows b marks k d u
+      pub tour-grows : (u : ℕ) → o ≡ Some u → Grows b marks k d u
       tour-grows u f =
-          let g : Found (rule_of b) (met_in marks) (node_in b) (read_in b k) d (At u) = subst (Found (rule_of b) (met_in marks) (node_in b) (read_in b k) d) f found in
+          let g : Found (rule_of b) (met_in marks) (node_in b) (read_in b k) d (Some u) = subst (Found (rule_of b) (met_in marks) (node_in b) (read_in b k) d) f found in
           record { next = e; met = g.0; longest = g.1 }
 
-      pub tour-none : {after : Tour} → o ≡ Nothing → Arrived t 1 true (reach_at at_left t) t.met after → Toured b marks carried (read_in b (k + 1)) after
+      pub tour-none : {after : Tour} → o ≡ None → Arrived t 1 true (reach_at at_left t) t.met after → Toured b marks carried (read_in b (k + 1)) after
       tour-none f x =
           let g : longest_suffix (rule_of b) (read_in b k ++ (d ∷ [])) ≡ [] = subst (Found (rule_of b) (met_in marks) (node_in b) (read_in b k) d) f found in
           let stood : Stands (longest_suffix (rule_of b) (read_in b k ++ (d ∷ []))) (read_in b k) = rw g (stands-empty (read_in b k)) in
@@ -284,17 +276,17 @@ module _ {b marks carried : Word} {k : ℕ} {t : Tour} (s : Reading b marks carr
         framed : (v : Word) → node_in b u ≡ spelt v → spelt (longest_suffix (rule_of b) (v ++ (d ∷ []))) ≡ link_of (rule_of b) (spelt (around (rule_of b) d (node_in b u)))
         framed v f = sym (ap (λ (y : Node). link_of (rule_of b) (spelt (around (rule_of b) d y))) f ∙ link-of-framed (rule_of b) d v)
 
-        walked : (v : Word) → node_in b u ≡ spelt v → (n : ℕ) (o : Walked) → Meets b (letters_in b) k d (rule_of b d) (link_in b u) n o → Found (rule_of b) (met_in marks) (node_in b) v d o
+        walked : (v : Word) → node_in b u ≡ spelt v → (n : ℕ) (o : Option ℕ) → Meets b (letters_in b) k d (rule_of b d) (link_in b u) n o → Found (rule_of b) (met_in marks) (node_in b) v d o
         walked v f n o m = meets-link b s.toured.covers (rule-inverse (reading_in b)) (letters_in b) k d (omega (arith, letters-more)) u n o v w.met f (word-ends v f) m
 
         stepped : (v : Word) → node_in b u ≡ spelt v → Stepped b (letters_in b) k d (rule_of b d) (link_in b u) x
             → (met_in marks x ≡ true) × (node_in b x ≡ link_of (rule_of b) (spelt (around (rule_of b) d (node_in b u))))
         stepped v f (grown y n m j) =
-            let g : (met_in marks y ≡ true) × (longest_suffix (rule_of b) (v ++ (d ∷ [])) ≡ around (rule_of b) d (node_in b y)) = walked v f n (At y) m in
+            let g : (met_in marks y ≡ true) × (longest_suffix (rule_of b) (v ++ (d ∷ [])) ≡ around (rule_of b) d (node_in b y)) = walked v f n (Some y) m in
             let o = s.toured.covers.edge-there y d g.0 (letter-next w.next) (subst (λ (x : Word). NodeOf (rule_of b) (read_in b k) (spelt x)) g.1 (link-stands-read v f)) in
             rw j (o.0, o.1 ∙ ap spelt (sym g.1) ∙ framed v f)
         stepped v f (ended n m j) =
-            let g : longest_suffix (rule_of b) (v ++ (d ∷ [])) ≡ [] = walked v f n Nothing m in
+            let g : longest_suffix (rule_of b) (v ++ (d ∷ [])) ≡ [] = walked v f n None m in
             rw j (met-root marks 1 (omega arith), node-one b ∙ ap spelt (sym g) ∙ framed v f)
 
         by : (y : Node) → node_in b u ≡ y → (met_in marks x ≡ true) × (node_in b x ≡ link_of (rule_of b) (spelt (around (rule_of b) d (node_in b u))))

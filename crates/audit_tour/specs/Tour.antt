@@ -1,5 +1,5 @@
 -- What the tour of src/lib.rt has shown of a store once some of its letters are read: the rows that it met are the eertree of those letters.
-use Rattle.std.specs.Prelude.{ℕ, ◌+◌, ◌<◌, ◌≡◌, Bool, true, ◌&&◌, ◌||◌, [], ◌∷◌, ◌++◌, eqb, leb, ltb, length, get_or, take}
+use Rattle.std.specs.Prelude.{ℕ, ◌+◌, ◌<◌, ◌≡◌, Bool, true, ◌&&◌, ◌||◌, [], ◌∷◌, ◌++◌, eqb, leb, ltb, length, get_or, take, Option, Some, None}
 use Rattle.palindromes.specs.Word.{Word, all_letters}
 use Rattle.palindromes.specs.Record.{count, longest_suffix}
 use Rattle.palindromes.specs.End.{End, at_left, at_right}
@@ -13,8 +13,6 @@ use Rattle.audit_fixed.specs.Parts.{RootsRight}
 use Rattle.audit_fixed.specs.Counting.{count_below}
 use Rattle.audit_lengths.specs.Lengths.{LengthsOf}
 use Rattle.audit_tour.specs.declared.Tour.{Tour}
-use Rattle.audit_tour.specs.declared.Visit.{Visit}
-use Rattle.audit_tour.specs.declared.Visit.TheVariants.{Next, Broken}
 
 -- what the tour asks of a store
 pub record Ready (b : Word) : Type 0 where
@@ -73,6 +71,6 @@ pub record Grows (b marks : Word) (k d u : ℕ) : Type 0 where
   pub longest : longest_suffix (rule_of b) (read_in b k ++ (d ∷ [])) ≡ around (rule_of b) d (node_in b u)
 
 -- how a tour stands once the letters p are read: it goes on, or the store is not good
-abbrev pub Visited : Word → (marks carried p : Word) → Visit → Type 0
-Visited b marks carried p (Next t) = Toured b marks carried p t
-Visited b marks carried p Broken = Good b → ⊥
+abbrev pub Visited : Word → (marks carried p : Word) → Option Tour → Type 0
+Visited b marks carried p (Some t) = Toured b marks carried p t
+Visited b marks carried p None = Good b → ⊥

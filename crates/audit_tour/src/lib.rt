@@ -19,7 +19,6 @@ use partners::{partner_in, table};
 use store::letters::Side;
 use store::rows;
 use store::rows::Row;
-use walk::Walked;
 use walk::frame::{Frame, frame_of, standing};
 
 // Where a tour stands. Of the right end of the letters so far: the row of the longest palindrome there, the row of the
@@ -35,13 +34,6 @@ pub struct Tour {
     pub second: usize,
     pub again: bool,
     pub met: usize,
-}
-
-// What a letter leads to: the tour goes on, or the store is not good.
-#[derive(Clone, Copy)]
-pub enum Visit {
-    Next(Tour),
-    Broken,
 }
 
 // What a tour knows of a side.
@@ -77,7 +69,8 @@ fn arrive(tour: Tour, q: usize, known: bool, left: Reach, met: usize) -> Tour
     }
 }
 
-// The letter d, whose partner is `want`, k letters read, leads along the edge of row u.
+// The letter d, whose partner is `want`, k letters read, leads along the edge of row u: to the tour that
+// goes on, or to none, where the store is not good.
 pub fn enter(
     b: &[u8],
     f: Frame,
@@ -88,7 +81,7 @@ pub fn enter(
     u: usize,
     d: u8,
     want: u8,
-) -> Visit
+) -> Option<Tour>
     requires frames { Frames b.now f × (want ≡ partner_in f d) }
     requires reading { Reading b.now marks.old carried.old k tour }
     requires grows { Grows b.now marks.old k d u }
@@ -96,22 +89,22 @@ pub fn enter(
 {
     let q = rows::edge_of(b, u, d);
     if !points_back(b, u, d, q) {
-        return Visit::Broken;
+        return None;
     }
     if marks[q] == 1 {
         let known = left_known(q, reach_at(tour, Side::Left));
-        return Visit::Next(arrive(tour, q, true, known, tour.met));
+        return Some(arrive(tour, q, true, known, tour.met));
     }
     if !new_row_right(b, f, k, u, d, want, q) {
-        return Visit::Broken;
+        return None;
     }
     marks[q] = 1;
     count_row(b, carried, q);
     let new = left_new(b, k, q, reach_at(tour, Side::Left));
-    Visit::Next(arrive(tour, q, false, new, tour.met + 1))
+    Some(arrive(tour, q, false, new, tour.met + 1))
 }
 
-// The letter after the first k.
+// The letter after the first k, in the same way.
 pub fn advance(
     b: &[u8],
     f: Frame,
@@ -120,7 +113,7 @@ pub fn advance(
     carried: &mut [u16],
     k: usize,
     tour: Tour,
-) -> Visit
+) -> Option<Tour>
     requires frames { Frames b.now f × PartnersIn f.reading partners.now }
     requires reading { Reading b.now marks.old carried.old k tour }
     ensures { Visited b.now marks.new carried.new (read_in b.now (k + 1)) result }
@@ -128,24 +121,22 @@ pub fn advance(
     let d = standing(b, f, Side::Right, k);
     let want = partner_in(partners, d);
     let search = walk::walk(b, f, Side::Right, k, tour.row, d, want);
-    let met = search.met;
-    match met {
-        Walked::At(u) => enter(b, f, marks, carried, k, tour, u, d, want),
-        Walked::Nothing => {
+    match search.met {
+        Some(u) => enter(b, f, marks, carried, k, tour, u, d, want),
+        None => {
             let left = reach_at(tour, Side::Left);
-            Visit::Next(arrive(tour, Row::EMPTY, true, left, tour.met))
+            Some(arrive(tour, Row::EMPTY, true, left, tour.met))
         }
     }
 }
 
 // All letters, with no row marked and no length counted at first.
-pub fn replay(b: &[u8], marks: &mut [u8], carried: &mut [u16]) -> Visit
+pub fn replay(b: &[u8], marks: &mut [u8], carried: &mut [u16]) -> Option<Tour>
     requires ready { Ready b.now }
     requires blank { Blank marks.old × Blank carried.old }
     ensures { Visited b.now marks.new carried.new (letters_in b.now) result }
 {
     let f = frame_of(b);
-    let n = f.n;
     let partners = table(f.reading);
     let mut tour = Tour {
         row: Row::EMPTY,
@@ -156,13 +147,8 @@ pub fn replay(b: &[u8], marks: &mut [u8], carried: &mut [u16]) -> Visit
         again: true,
         met: 0,
     };
-    let mut k = 0;
-    while k < n {
-        let Visit::Next(next) = advance(b, f, &partners, marks, carried, k, tour) else {
-            return Visit::Broken;
-        };
-        tour = next;
-        k += 1;
+    for k in 0..f.n {
+        tour = advance(b, f, &partners, marks, carried, k, tour)?;
     }
-    Visit::Next(tour)
+    Some(tour)
 }

@@ -8,15 +8,17 @@ use mathlib.Core.Path.{◌≡◌, refl, sym, ap, ◌∙◌}
 use mathlib.Core.Bool.{Bool, true, false, cond, ◌&&◌, not, and-false}
 use mathlib.Core.List.{List, [], ◌∷◌}
 use mathlib.Core.Option.{none, some}
-use lib.Dec.{eqb, leb}
+use lib.Dec.{eqb, leb, ltb}
 use lib.ListN.{length, get_or, take, drop, drop_of_length-le}
 use lib.Seq.{drop-cons}
-use borrow.Author.Tests.{leb-true, ne_eqb, eq-eqb}
+use borrow.Author.Tests.{leb-true, ne_eqb, lt-ltb, le-ltb}
 use Rattle.palindromes.specs.Word.{Word}
 use Rattle.palindromes.specs.Digits.{value_from, value}
 use Rattle.palindromes.specs.Sheet.{in_first, split, all_digits, needless_zero, is_number, Line, line_of}
 use Rattle.palindromes.proofs.Tests.{both_true, not-true-false}
-use Rattle.bed_reader.specs.declared.Number.TheVariants.{Value, NoNumber}
+use Rattle.std.specs.Prelude.{Some, None, unwrap_or}
+use Rattle.std.specs.List.{position_or_len}
+use Rattle.std.proofs.lemmas.List.Recursion.{is_position_or_len}
 use Rattle.bed_reader.specs.Reading.{place_of, number_of}
 
 -- ---- the first place of a byte
@@ -30,19 +32,21 @@ place-most c (b ∷ w) = go (eqb b c) (place-most c w)
     go true h = omega arith
     go false h = omega arith
 
--- a byte more, which is not the one looked for, or is
-pub place-later : (c : ℕ) (w : Word) (i : ℕ) → i < length w → (get_or w i 0 ≡ c → ⊥)
-    → i + place_of c (drop i w) ≡ i + 1 + place_of c (drop (i + 1) w)
+-- the place is where the first byte that equals c stands
+place-position : (c : ℕ) (w : Word) → place_of c w ≡ position_or_len (λ b. eqb b c) w
 unfolding place_of
-place-later c w i h n = rw (add-one i, drop-cons w i 0 h, ne_eqb (get_or w i 0) c n) (omega arith)
+place-position c w = is_position_or_len (place_of c) (λ b. eqb b c) refl (λ x xs. ap (cond (eqb x c) 0) (omega arith)) w
 
-pub place_here : (c : ℕ) (w : Word) (i : ℕ) → i < length w → get_or w i 0 ≡ c → i + place_of c (drop i w) ≡ i
-unfolding place_of
-place_here c w i h e = rw (drop-cons w i 0 h, eq-eqb (get_or w i 0) c e) (omega arith)
-
-pub place_none : (c : ℕ) (w : Word) (i : ℕ) → length w ≤ i → i + place_of c (drop i w) ≡ i
-unfolding place_of
-place_none c w i h = rw (drop_of_length-le w h) (omega arith)
+-- and the length, where there is none
+pub place-found : (c : ℕ) (w : Word)
+    → unwrap_or (cond (ltb (position_or_len (λ b. eqb b c) w) (length w)) (Some (position_or_len (λ b. eqb b c) w)) None) (length w) ≡ place_of c w
+place-found c w = go (dec_lt (position_or_len (λ b. eqb b c) w) (length w))
+  where
+    go : Dec (position_or_len (λ b. eqb b c) w < length w)
+        → unwrap_or (cond (ltb (position_or_len (λ b. eqb b c) w) (length w)) (Some (position_or_len (λ b. eqb b c) w)) None) (length w) ≡ place_of c w
+    go (yes h) = rw (lt-ltb (position_or_len (λ b. eqb b c) w) (length w) h) (sym (place-position c w))
+    go (no h) =
+        rw (le-ltb (position_or_len (λ b. eqb b c) w) (length w) (omega arith)) (omega (arith, place-most c w, place-position c w))
 
 -- ---- the parts
 
@@ -95,20 +99,20 @@ number_digits w h =
     (both_true (leb 1 (length w) && leb (length w) 4) (all_digits w) (both_true (leb 1 (length w) && leb (length w) 4 && all_digits w) (not (needless_zero w)) h).0
     ).1
 
-pub number-value : (w : Word) (n : ℕ) → number_of w ≡ Value n → (is_number w ≡ true) × (value w ≡ n)
+pub number-value : (w : Word) (n : ℕ) → number_of w ≡ Some n → (is_number w ≡ true) × (value w ≡ n)
 unfolding number_of
 number-value w n = go (is_number w)
   where
-    go : (t : Bool) → cond t (Value (value w)) NoNumber ≡ Value n → (t ≡ true) × (value w ≡ n)
+    go : (t : Bool) → cond t (Some (value w)) None ≡ Some n → (t ≡ true) × (value w ≡ n)
     go true e = (refl, cc)
-    go false e = absurd (let z : ◌≡◌ {A = ℕ} 0 1 = cc in omega arith)
+    go false e = cc
 
-pub number-none : (w : Word) → number_of w ≡ NoNumber → is_number w ≡ false
+pub number-none : (w : Word) → number_of w ≡ None → is_number w ≡ false
 unfolding number_of
 number-none w = go (is_number w)
   where
-    go : (t : Bool) → cond t (Value (value w)) NoNumber ≡ NoNumber → t ≡ false
-    go true e = absurd (let z : ◌≡◌ {A = ℕ} 0 1 = cc in omega arith)
+    go : (t : Bool) → cond t (Some (value w)) None ≡ None → t ≡ false
+    go true e = cc
     go false e = refl
 
 -- one byte of a field more

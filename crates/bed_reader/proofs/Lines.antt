@@ -1,5 +1,5 @@
 -- A sheet line by line: what stands in front of the first LF is a line, and the sheet goes on behind it. Rests on the laws of parts.
-use Prim.Native.Nat.{ℕ, suc, ◌≤◌, ◌<◌}
+use Prim.Native.Nat.{suc, ◌≤◌, ◌<◌}
 use native.Mathlib.Omega.{arith}
 use mathlib.Core.Path.{◌≡◌, refl}
 use mathlib.Core.List.{[], ◌∷◌}
@@ -8,7 +8,7 @@ use lib.ListN.{length, take, drop}
 use Rattle.palindromes.specs.Word.{Word}
 use Rattle.palindromes.specs.Sheet.{split, Line, line_of, with_line, lines_of, sheet_lines}
 use Rattle.bed_reader.specs.declared.Entry.{Entry}
-use Rattle.bed_reader.specs.declared.Parsed.TheVariants.{ALine, NoLine}
+use Rattle.std.specs.Prelude.{Some, None}
 use Rattle.bed_reader.specs.Reading.{place_of, entry_of, parsed_of}
 use Rattle.bed_reader.proofs.Fields.{split-none, split-first, split-some}
 
@@ -29,13 +29,13 @@ unfolding sheet_lines lines_of split
 sheet-empty = refl
 
 -- what was read is the line
-pub parsed-none : (identifier : Word) (o : Option Line) → parsed_of identifier o ≡ NoLine → o ≡ none
+pub parsed-none : (identifier : Word) (o : Option Line) → parsed_of identifier o ≡ None → o ≡ none
 unfolding parsed_of
 parsed-none identifier none e = refl
-parsed-none identifier (some l) e = absurd (let z : ◌≡◌ {A = ℕ} 0 1 = cc in omega arith)
+parsed-none identifier (some l) e = cc
 
-pub parsed-line : (identifier : Word) (o : Option Line) (x : Entry) → parsed_of identifier o ≡ ALine x
+pub parsed-line : (identifier : Word) (o : Option Line) (x : Entry) → parsed_of identifier o ≡ Some x
     → (l : Line) × (o ≡ some l) × (entry_of identifier l ≡ x)
 unfolding parsed_of
-parsed-line identifier none x e = absurd (let z : ◌≡◌ {A = ℕ} 0 1 = cc in omega arith)
+parsed-line identifier none x e = cc
 parsed-line identifier (some l) x e = (l, refl, cc)

@@ -4,15 +4,25 @@ use native.Mathlib.Omega.{arith}
 use native.Mathlib.Numerals.{add-one}
 use mathlib.Core.Path.{◌≡◌, refl, sym, ap, ◌∙◌}
 use mathlib.Core.Bool.{Bool, cond, ◌&&◌, and-false}
+use mathlib.Core.List.{[], ◌∷◌}
 use mathlib.Core.Option.{none, some}
+use lib.Dec.{eqb}
 use lib.ListN.{length, take, drop, length-drop}
 use lib.Seq.{take_all, drop-drop}
 use Rattle.palindromes.specs.Word.{Word, same_word}
 use Rattle.palindromes.specs.Sheet.{split, is_number, line_of}
-use Rattle.bed_reader.specs.declared.Number.TheVariants.{Value, NoNumber}
-use Rattle.bed_reader.specs.declared.Parsed.TheVariants.{ALine, NoLine}
+use Rattle.std.specs.Prelude.{Some, None}
+use Rattle.std.specs.Str.{bytes_eq}
 use Rattle.bed_reader.specs.Reading.{place_of, number_of, entry_of, parsed_of}
 use Rattle.bed_reader.proofs.Fields.{place-most, number-value, number-none, one_field, two_fields, more-fields, line_with}
+
+-- `==` of two words is their comparison letter by letter
+pub compared : (u v : Word) → bytes_eq u v ≡ same_word u v
+unfolding same_word
+compared [] [] = refl
+compared [] (y ∷ v) = refl
+compared (x ∷ u) [] = refl
+compared (x ∷ u) (y ∷ v) = ap (λ (t : Bool). eqb x y && t) (compared u v)
 
 -- all that is behind a place
 pub behind : (w : Word) (n : ℕ) → take (length w - n) (drop n w) ≡ drop n w
@@ -20,7 +30,7 @@ behind w n = take_all (length w - n) (drop n w) (omega (arith, length-drop n w))
 
 module _ (w identifier : Word) (first : ℕ) (e : first ≡ place_of 9 w) where
   -- no tab
-  pub no-tab : length w ≤ first → NoLine ≡ parsed_of identifier (line_of (split 9 w))
+  pub no-tab : length w ≤ first → None ≡ parsed_of identifier (line_of (split 9 w))
   unfolding parsed_of
   no-tab h = rw (one_field w (omega arith))
 
@@ -42,7 +52,7 @@ module _ (w identifier : Word) (first : ℕ) (e : first ≡ place_of 9 w) where
     second-most = omega (arith, place_is, place-most 9 rest, rest-length)
 
     -- one tab
-    pub one-tab : length w ≤ first + 1 + second → NoLine ≡ parsed_of identifier (line_of (split 9 w))
+    pub one-tab : length w ≤ first + 1 + second → None ≡ parsed_of identifier (line_of (split 9 w))
     unfolding parsed_of rest
     one-tab k = rw (two_fields w (omega arith) (omega (arith, place_is, rest-length)))
 
@@ -72,17 +82,17 @@ module _ (w identifier : Word) (first : ℕ) (e : first ≡ place_of 9 w) where
       whole = fields-are _ _ _ (ap (λ (m : ℕ). take m w) e) start-field end-field
 
       -- a field that is no number
-      pub no_start : number_of starts ≡ NoNumber → NoLine ≡ parsed_of identifier (line_of (split 9 w))
+      pub no_start : number_of starts ≡ None → None ≡ parsed_of identifier (line_of (split 9 w))
       unfolding parsed_of
       no_start n = rw (whole, number-none _ n)
 
-      pub no_end : number_of ends ≡ NoNumber → NoLine ≡ parsed_of identifier (line_of (split 9 w))
+      pub no_end : number_of ends ≡ None → None ≡ parsed_of identifier (line_of (split 9 w))
       unfolding parsed_of
       no_end n = rw (whole, number-none _ n, and-false (is_number starts))
 
-      pub a-line : {agrees : Bool} {start end : ℕ} → number_of starts ≡ Value start → number_of ends ≡ Value end
+      pub a-line : {agrees : Bool} {start end : ℕ} → number_of starts ≡ Some start → number_of ends ≡ Some end
           → agrees ≡ same_word (take first w) identifier
-          → ALine (record { agrees = agrees; start = start; end = end }) ≡ parsed_of identifier (line_of (split 9 w))
+          → Some (record { agrees = agrees; start = start; end = end }) ≡ parsed_of identifier (line_of (split 9 w))
       unfolding parsed_of entry_of
       a-line p q a =
           let s = number-value _ _ p in

@@ -27,10 +27,7 @@ pub fn across(b: &[u8], side: Side, longest: i32, n: usize, whole: usize) -> usi
 {
     let kept = header::end_row(b, letters::other(side));
     let all = n as i32;
-    if longest == all {
-        return whole;
-    }
-    kept
+    if longest == all { whole } else { kept }
 }
 
 // Puts the number of letters, the row of the end at `side` and that of the end across.

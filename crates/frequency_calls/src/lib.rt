@@ -4,41 +4,40 @@
 
 ghost use Rattle.palindromes.specs.Refusal.{ask, the_frequency, the_occurrences};
 ghost use Rattle.outcome.specs.Promise.{nothing, Asked};
-ghost use Rattle.outcome.specs.Verdict.{Verdict};
+ghost use Rattle.outcome.specs.Verdict.{Verdict, judged_number};
 
 use end_rows::rows_at_ends;
 use frequencies::occurrences_by_row;
 use outcome::{pack, pack_wide, refuse};
 use questions::rows;
+use refusal::Refusal;
 use store::rows::Row;
 use suffix_palindromes::occurrences_by_end;
 
-// The refusal number of asking how often a row's repeat stands, 0 where it can be answered.
-fn judge_frequency(store: &[u8], row: u64) -> u64
-    ensures { Verdict (ask (the_frequency row)) store.now nothing result }
+// Why it cannot be told how often a row's repeat stands, if it cannot.
+fn judge_frequency(store: &[u8], row: u64) -> Result<(), Refusal>
+    ensures { Verdict (ask (the_frequency row)) store.now nothing (judged_number result) }
 {
     if !audit::is_good(store) {
-        return 3;
+        return Err(Refusal::Damaged);
     }
-    if row as usize <= Row::EMPTY {
-        return 7;
+    if row as usize <= Row::EMPTY || !rows::is_used(store, row as usize) {
+        return Err(Refusal::NoSuchPlace);
     }
-    if !rows::is_used(store, row as usize) {
-        return 7;
-    }
-    0
+    Ok(())
 }
 
 // How often a row's repeat stands.
 pub fn frequency(store: &[u8], row: u64) -> u64
     ensures { Asked (the_frequency row) store.now nothing result nothing }
 {
-    let number = judge_frequency(store, row);
-    if number != 0 {
-        return refuse(number);
+    match judge_frequency(store, row) {
+        Ok(()) => {
+            let places = suffix_palindromes::frequency(store, row as usize);
+            pack(false, 0, places, 0)
+        }
+        Err(refusal) => refuse(refusal),
     }
-    let places = suffix_palindromes::frequency(store, row as usize);
-    pack(false, 0, places, 0)
 }
 
 // How many repeats stand, counted by place: over the rows and over the right ends.
@@ -46,7 +45,7 @@ pub fn occurrences(store: &[u8]) -> u64
     ensures { Asked the_occurrences store.now nothing result nothing }
 {
     if !audit::is_good(store) {
-        return refuse(3);
+        return refuse(Refusal::Damaged);
     }
     let mut ends = [0u16; 1024];
     rows_at_ends(store, &mut ends);

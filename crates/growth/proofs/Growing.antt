@@ -11,6 +11,7 @@ use mathlib.Core.List.{[], ◌∷◌, ◌++◌}
 use lib.ListN.{length, take, length-append}
 use lib.IntN.{ℤ, pos, pred_ℤ}
 use lib.Seq.{take_all}
+use Rattle.std.specs.Prelude.{Option, Some, None}
 use Rattle.palindromes.specs.Word.{Word, is_letter}
 use Rattle.palindromes.specs.Palindrome.{Symmetric}
 use Rattle.palindromes.specs.Place.{Suffix, Stands, stands}
@@ -37,8 +38,6 @@ use Rattle.walk.specs.Walk.{Meets, Stepped, grown, ended, Found}
 use Rattle.walk.specs.Frame.{Frames, seen_in, partner_in}
 use Rattle.walk.specs.Replay.{letters_towards, letter_towards}
 use Rattle.walk.specs.declared.frame.Frame.{Frame}
-use Rattle.walk.specs.declared.Walked.{Walked}
-use Rattle.walk.specs.declared.Walked.TheVariants.{At, Nothing}
 use Rattle.walk.proofs.Found.{meets-longest, meets-steps, meets-link}
 use Rattle.walk.proofs.Towards.{longest-towards, longest-towards-added, stands-towards}
 use Rattle.walk.proofs.Stores.{framed-letters, framed-rule}
@@ -93,18 +92,18 @@ module _ {b : Word} (g : Good b) (e : End) where
   -- ---- the walks
 
   -- the walk from the end's row meets the row around which the next letter makes the longest palindrome
-  pub met : (d n : ℕ) (o : Walked) → Meets b (letters_towards b e) (size_in b) d (rule_of b d) (end_row b e) n o → Met b e d o
+  pub met : (d n : ℕ) (o : Option ℕ) → Meets b (letters_towards b e) (size_in b) d (rule_of b d) (end_row b e) n o → Met b e d o
   met d n o m =
       subst (λ (q : Word). Found (rule_of b) (used_in b) (node_in b) q d o) read_all
       (meets-longest b (covers-read g e) (rule-inverse (reading_in b)) (letters_towards b e) (size_in b) d (omega (arith, read_length g e)) (end_row b e) n o (g.ends e).used end-longest m)
 
   -- and passes as many rows as the search passes candidates
-  pub passed : (d n : ℕ) (o : Walked) → Meets b (letters_towards b e) (size_in b) d (rule_of b d) (end_row b e) n o → Passed b e d n
+  pub passed : (d n : ℕ) (o : Option ℕ) → Meets b (letters_towards b e) (size_in b) d (rule_of b d) (end_row b e) n o → Passed b e d n
   passed d n o m =
       subst (λ (q : Word). n ≡ search_steps (rule_of b) d q) read_all
       (meets-steps b (covers-read g e) (rule-inverse (reading_in b)) (letters_towards b e) (size_in b) d (omega (arith, read_length g e)) (end_row b e) n o (g.ends e).used end-longest m)
 
-  module _ (d u : ℕ) (l : is_letter d ≡ true) (h : Met b e d (At u)) where
+  module _ (d u : ℕ) (l : is_letter d ≡ true) (h : Met b e d (Some u)) where
     -- what the letter makes is a palindrome, and ends what is then read
     grown-symmetric : Symmetric (rule_of b) (made b d u)
     grown-symmetric = subst (Symmetric (rule_of b)) h.1 (longest-suffix (rule_of b) (letters_towards b e ++ (d ∷ []))).symmetric
@@ -139,12 +138,12 @@ module _ {b : Word} (g : Good b) (e : End) where
 
       step-link : (q : ℕ) → Stepped b (letters_towards b e) (size_in b) d (rule_of b d) (link_in b u) q → q ≡ row_of b (spelt (longest_suffix (rule_of b) (w ++ (d ∷ []))))
       step-link q (grown v n m k) =
-          let i = meets-link b (covers-read g e) (rule-inverse (reading_in b)) (letters_towards b e) (size_in b) d (omega (arith, read_length g e)) u n (At v) w h.0 f word-ends m in
+          let i = meets-link b (covers-read g e) (rule-inverse (reading_in b)) (letters_towards b e) (size_in b) d (omega (arith, read_length g e)) u n (Some v) w h.0 f word-ends m in
           let stood : NodeOf (rule_of b) (letters_in b) (spelt (around (rule_of b) d (node_in b v))) = subst (λ (x : Word). NodeOf (rule_of b) (letters_in b) (spelt x)) i.1 link-node in
           cc (k, edge_row g v i.0 d l stood, i.1)
       step-link q (ended n m k) =
           let i : longest_suffix (rule_of b) (w ++ (d ∷ [])) ≡ [] =
-          meets-link b (covers-read g e) (rule-inverse (reading_in b)) (letters_towards b e) (size_in b) d (omega (arith, read_length g e)) u n Nothing w h.0 f word-ends m in
+          meets-link b (covers-read g e) (rule-inverse (reading_in b)) (letters_towards b e) (size_in b) d (omega (arith, read_length g e)) u n None w h.0 f word-ends m in
           cc (k, i, row-of-empty g)
 
     pub link-stepped : (u ≡ 0 → ⊥) → (q : ℕ) → Stepped b (letters_towards b e) (size_in b) d (rule_of b d) (link_in b u) q
@@ -189,14 +188,14 @@ module _ {b : Word} (g : Good b) (e : End) where
     unfolding longest_after
     longest-read = rw same (longest-towards-added (rule_of b) (rule-inverse (reading_in b)) e c (letters_in b))
 
-    pub longest-met : (u : ℕ) → Met b e d (At u) → longest_after e c b ≡ made b d u
+    pub longest-met : (u : ℕ) → Met b e d (Some u) → longest_after e c b ≡ made b d u
     longest-met u h = longest-read ∙ h.1
 
     longest-symmetric : Symmetric (rule_of b) (longest_after e c b)
     longest-symmetric = subst (Symmetric (rule_of b)) (sym longest-read) (longest-suffix (rule_of b) (letters_towards b e ++ (d ∷ []))).symmetric
 
     -- the walk met none: there is no palindrome, and so none is new
-    pub found_none : Met b e d Nothing → StoodIs b e c 1
+    pub found_none : Met b e d None → StoodIs b e c 1
     unfolding brings_in
     found_none h =
         let f : longest_after e c b ≡ [] = longest-read ∙ h in
@@ -204,7 +203,7 @@ module _ {b : Word} (g : Good b) (e : End) where
         let r = g.table.row_one in
         record { old = ap not x; used = r.0; holds = cc (r.1, f) }
 
-    module _ (u : ℕ) (l : is_letter d ≡ true) (h : Met b e d (At u)) where
+    module _ (u : ℕ) (l : is_letter d ≡ true) (h : Met b e d (Some u)) where
       -- it stands as a node if it stands
       longest-node : stands (longest_after e c b) (letters_in b) ≡ true → NodeOf (rule_of b) (letters_in b) (spelt (made b d u))
       longest-node x =

@@ -1,15 +1,15 @@
 -- What the contracts say of a letter that is to join an end of a good store: the row around which it makes the longest palindrome there, whether that is new, and the row to write for it.
-use Rattle.std.specs.Prelude.{ℕ, ◌≡◌, true, false}
+use Rattle.std.specs.Prelude.{ℕ, ◌≡◌, true, false, Option}
 use Rattle.palindromes.specs.Word.{Word}
-use Rattle.palindromes.specs.End.{End, at_left, at_right, letter_at}
+use Rattle.palindromes.specs.End.{End, at_right, letter_at}
 use Rattle.palindromes.specs.Node.{spelt, length_of, link_of, inner_of, around}
 use Rattle.palindromes.specs.SearchSteps.{search_steps}
 use Rattle.store.specs.Layout.{used_in}
 use Rattle.store.specs.Good.{rule_of, node_in}
 use Rattle.store.specs.Lengths.{Stored}
+use Rattle.store.specs.Side.{pick}
 use Rattle.store.specs.declared.rows.Row.{Row}
 use Rattle.walk.specs.Replay.{letters_towards, steps_towards}
-use Rattle.walk.specs.declared.Walked.{Walked}
 use Rattle.walk.specs.Walk.{Found}
 use Rattle.transitions.specs.Rows.{row_of}
 use Rattle.transitions.specs.Addition.{longest_after, brings_in}
@@ -18,8 +18,7 @@ use Rattle.growth.specs.declared.Growth.TheVariants.{Fresh, Stood}
 
 -- the letter that is read next towards an end where c joins it, p being c's partner: at the left end letters are read as their partners
 abbrev pub read_as : End → (c p : ℕ) → ℕ
-read_as at_right c p = c
-read_as at_left c p = p
+read_as e c p = pick e p c
 
 -- the word that the letter d makes around row u
 abbrev pub made : Word → (d u : ℕ) → Word
@@ -30,7 +29,7 @@ abbrev pub link_row : Word → Word → ℕ
 link_row b v = row_of b (link_of (rule_of b) (spelt v))
 
 -- the used row around which the letter d, read next towards an end, makes the longest palindrome; or that it makes none
-abbrev pub Met : Word → End → ℕ → Walked → Type 0
+abbrev pub Met : Word → End → ℕ → Option ℕ → Type 0
 Met b e d o = Found (rule_of b) (used_in b) (node_in b) (letters_towards b e) d o
 
 -- as many candidates as the search for the letter d passes, read next towards an end

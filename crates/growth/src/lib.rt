@@ -6,12 +6,12 @@ ghost use Rattle.std.specs.Prelude.{◌≡◌, true};
 ghost use Rattle.palindromes.specs.Word.{is_letter};
 ghost use Rattle.store.specs.Good.{rule_of, Good};
 ghost use Rattle.store.specs.Side.{end_of};
-ghost use Rattle.growth.specs.Steps.{read_as, made, link_row, Met, Passed, RowFor, Grown};
+ghost use Rattle.growth.specs.Steps.{made, link_row, Met, Passed, RowFor, Grown};
 
 use store::letters::Side;
 use store::rows::Row;
 use store::{header, lengths, rows};
-use walk::{Search, Walked, frame};
+use walk::{Search, frame};
 
 // What a letter makes at an end: a palindrome that stood nowhere, with the row to write for it, or
 // one that stood before, in the row that is named; and how many rows the walk for it passed.
@@ -19,17 +19,6 @@ use walk::{Search, Walked, frame};
 pub enum Growth {
     Fresh(Row, usize),
     Stood(usize, usize),
-}
-
-// The letter that is read towards a side where c joins it, by c's partner p. With the two exchanged it is
-// the partner of what is read.
-fn read_as(side: Side, c: u8, p: u8) -> u8
-    ensures { result ≡ read_as (end_of side) c p }
-{
-    match side {
-        Side::Right => c,
-        Side::Left => p,
-    }
 }
 
 // The row around which the letter d, read next towards a side, makes the longest palindrome; `want` is
@@ -48,7 +37,7 @@ fn meet(b: &[u8], side: Side, d: u8, want: u8) -> Search
 fn link_around(b: &[u8], side: Side, d: u8, want: u8, u: usize) -> usize
     requires good { Good b.now }
     requires want_value { want ≡ rule_of b.now d }
-    requires d_value { (is_letter d ≡ true) × Met b.now (end_of side) d (Walked.At u) }
+    requires d_value { (is_letter d ≡ true) × Met b.now (end_of side) d (Some u) }
     ensures { result ≡ link_row b.now (made b.now d u) }
 {
     if u == Row::IMAGINARY {
@@ -63,7 +52,7 @@ fn link_around(b: &[u8], side: Side, d: u8, want: u8, u: usize) -> usize
 fn row_around(b: &[u8], side: Side, d: u8, want: u8, u: usize) -> Row
     requires good { Good b.now }
     requires want_value { want ≡ rule_of b.now d }
-    requires d_value { (is_letter d ≡ true) × Met b.now (end_of side) d (Walked.At u) }
+    requires d_value { (is_letter d ≡ true) × Met b.now (end_of side) d (Some u) }
     ensures { RowFor b.now (made b.now d u) result }
 {
     let length = lengths::plus_two(rows::length_of(b, u));
@@ -77,19 +66,20 @@ pub fn find(b: &[u8], side: Side, c: u8, p: u8) -> Growth
     requires c_value { (is_letter c ≡ true) × (p ≡ rule_of b.now c) }
     ensures { Grown b.now (end_of side) c result }
 {
-    let d = read_as(side, c, p);
-    let want = read_as(side, p, c);
+    // the letter that is read towards the side where c joins it, and its partner
+    let d = side.pick(p, c);
+    let want = side.pick(c, p);
     let search = meet(b, side, d, want);
-    let met = search.met;
-    match met {
-        Walked::At(u) => {
+    match search.met {
+        Some(u) => {
             // no edge leads to the imaginary string: its number says that there is none
             let q = rows::edge_of(b, u, d);
             if q == Row::IMAGINARY {
-                return Growth::Fresh(row_around(b, side, d, want, u), search.passed);
+                Growth::Fresh(row_around(b, side, d, want, u), search.passed)
+            } else {
+                Growth::Stood(q, search.passed)
             }
-            Growth::Stood(q, search.passed)
         }
-        Walked::Nothing => Growth::Stood(Row::EMPTY, search.passed),
+        None => Growth::Stood(Row::EMPTY, search.passed),
     }
 }

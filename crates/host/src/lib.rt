@@ -1,5 +1,6 @@
-// The calls of a host in C, by the names of include/mirror.h. Each only hands on to a
-// function of the crate of its call, with the same promise, which holds for all bytes and all numbers.
+// The calls of a host in C, by the names of include/mirror.h. Each only hands on to a function of
+// the crate of its call, where need be with its end or its reading, and makes the same promise, which
+// holds for all bytes and all numbers.
 #![tactic(auto)]
 
 ghost use Rattle.palindromes.specs.Reading.{as_plain, as_inverted};
@@ -10,18 +11,21 @@ ghost use Rattle.fasta_call.specs.Answer.{FastaPromise};
 ghost use Rattle.uncertain_call.specs.Answer.{UncertainPromise};
 ghost use Rattle.outcome.specs.Promise.{lending, nothing, Promise, OpeningPromise, FreeRow, Asked, AskedInto};
 
+use opening::Reading;
+use store::letters::Side;
+
 // Opens an empty plain record of the given capacity.
 pub fn mirror_open(store: &mut [u8], capacity: u64) -> u64
     ensures { OpeningPromise as_plain capacity store.old result store.new }
 {
-    opening_call::open_record(store, capacity)
+    opening_call::open(store, Reading::Plain, capacity)
 }
 
 // Opens an empty inverted record of the given capacity.
 pub fn mirror_open_inverted(store: &mut [u8], capacity: u64) -> u64
     ensures { OpeningPromise as_inverted capacity store.old result store.new }
 {
-    opening_call::open_inverted(store, capacity)
+    opening_call::open(store, Reading::Inverted, capacity)
 }
 
 // Adds a letter at the left end.
@@ -29,7 +33,7 @@ pub fn mirror_add_left(store: &mut [u8], letter: u64) -> u64
     ensures promise { Promise (add at_left letter) store.old nothing result store.new nothing }
     ensures free { FreeRow at_left letter store.old }
 {
-    addition_call::add_left(store, letter)
+    addition_call::add(store, Side::Left, letter)
 }
 
 // Adds a letter at the right end.
@@ -37,35 +41,35 @@ pub fn mirror_add_right(store: &mut [u8], letter: u64) -> u64
     ensures promise { Promise (add at_right letter) store.old nothing result store.new nothing }
     ensures free { FreeRow at_right letter store.old }
 {
-    addition_call::add_right(store, letter)
+    addition_call::add(store, Side::Right, letter)
 }
 
 // Removes the letter at the left end.
 pub fn mirror_remove_left(store: &mut [u8]) -> u64
     ensures { Promise (remove at_left) store.old nothing result store.new nothing }
 {
-    removal_call::remove_left(store)
+    removal_call::remove(store, Side::Left)
 }
 
 // Removes the letter at the right end.
 pub fn mirror_remove_right(store: &mut [u8]) -> u64
     ensures { Promise (remove at_right) store.old nothing result store.new nothing }
 {
-    removal_call::remove_right(store)
+    removal_call::remove(store, Side::Right)
 }
 
 // Turns the record to the plain reading.
 pub fn mirror_turn_plain(store: &mut [u8]) -> u64
     ensures { Promise (turn as_plain) store.old nothing result store.new nothing }
 {
-    turn_call::turn_plain(store)
+    turn_call::turn(store, Reading::Plain)
 }
 
 // Turns the record to the inverted reading.
 pub fn mirror_turn_inverted(store: &mut [u8]) -> u64
     ensures { Promise (turn as_inverted) store.old nothing result store.new nothing }
 {
-    turn_call::turn_inverted(store)
+    turn_call::turn(store, Reading::Inverted)
 }
 
 // How many letters stand.
@@ -100,14 +104,14 @@ pub fn mirror_longest(store: &[u8]) -> u64
 pub fn mirror_longest_left(store: &[u8]) -> u64
     ensures { Asked (the_longest_at at_left) store.now nothing result nothing }
 {
-    longest_calls::longest_left(store)
+    longest_calls::longest_at(store, Side::Left)
 }
 
 // The longest repeat at the right end: its row, and whether it stands once only.
 pub fn mirror_longest_right(store: &[u8]) -> u64
     ensures { Asked (the_longest_at at_right) store.now nothing result nothing }
 {
-    longest_calls::longest_right(store)
+    longest_calls::longest_at(store, Side::Right)
 }
 
 // The letter at a place.

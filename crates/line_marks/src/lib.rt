@@ -35,13 +35,7 @@ fn mark_line(b: &[u8], ends: &[u16], jumps: &[u16], marks: &mut [u8], x: Entry) 
     requires end_rows { EndRows b.now ends.now × Jumps b.now jumps.now }
     ensures { MarksLine b.now x marks.old result marks.new }
 {
-    if !x.agrees {
-        return LineMark::Wrong;
-    }
-    if x.end <= x.start {
-        return LineMark::Wrong;
-    }
-    if header::size(b) < x.end {
+    if !x.agrees || x.end <= x.start || header::size(b) < x.end {
         return LineMark::Wrong;
     }
     let row = row_of_interval(b, ends, jumps, x.start, x.end);
@@ -49,9 +43,10 @@ fn mark_line(b: &[u8], ends: &[u16], jumps: &[u16], marks: &mut [u8], x: Entry) 
         return LineMark::Wrong;
     }
     if mark(marks, 0, rank_of(b, row)) {
-        return LineMark::Right;
+        LineMark::Right
+    } else {
+        LineMark::Repeated
     }
-    LineMark::Repeated
 }
 
 // Counts a line on top of those above it.
@@ -71,18 +66,15 @@ pub fn count_line(
     match mark_line(b, ends, jumps, marks, x) {
         LineMark::Right => SoFar {
             right: above.right + 1,
-            repeated: above.repeated,
-            wrong: above.wrong,
+            ..above
         },
         LineMark::Repeated => SoFar {
-            right: above.right,
             repeated: above.repeated + 1,
-            wrong: above.wrong,
+            ..above
         },
         LineMark::Wrong => SoFar {
-            right: above.right,
-            repeated: above.repeated,
             wrong: above.wrong + 1,
+            ..above
         },
     }
 }

@@ -1,5 +1,5 @@
 -- What the questions about the longest repeat promise, on plain values. Rests on `Refusals`, `Promises` and `Fits` of the outcomes.
-use Prim.Native.Nat.{ℕ, ◌-◌, ◌<◌}
+use Prim.Native.Nat.{ℕ, ◌<◌}
 use mathlib.Core.Path.{◌≡◌, refl, sym, ap}
 use mathlib.Core.Bool.{Bool, true, false}
 use native.Mathlib.Omega.{arith}

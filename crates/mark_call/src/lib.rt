@@ -5,22 +5,37 @@
 ghost use Rattle.std.specs.Prelude.{◌≡◌, ◌&&◌, eqb};
 ghost use Rattle.palindromes.specs.Refusal.{mark};
 ghost use Rattle.outcome.specs.Promise.{AskedInto};
+ghost use Rattle.mark_call.specs.Told.{told};
 
 use identifier::is_identifier;
-use marking::SheetMarks;
 use outcome::{pack, refuse};
+use refusal::Refusal;
+use tally::Tally;
 
 // Whether counts are those of full marks.
-fn is_full(repeated: u64, wrong: u64, missing: u64) -> bool
-    ensures { result ≡ (eqb repeated 0 && eqb wrong 0 && eqb missing 0) }
+fn is_full(counts: Tally) -> bool
+    ensures { result ≡ (eqb counts.repeated 0 && eqb counts.wrong 0 && eqb counts.missing 0) }
 {
-    if repeated != 0 {
-        return false;
+    counts.repeated == 0 && counts.wrong == 0 && counts.missing == 0
+}
+
+// Whether a sheet has full marks, with its four counts in the place of those of the mark sheet; or why
+// it was not marked.
+fn try_mark(store: &[u8], name: &[u8], sheet: &[u8], marks: &mut [u8]) -> Result<bool, Refusal>
+    ensures { AskedInto (mark name.now sheet.now) store.now marks.old (told result) marks.new }
+{
+    if !audit::is_good(store) {
+        return Err(Refusal::Damaged);
     }
-    if wrong != 0 {
-        return false;
+    if !is_identifier(name) {
+        return Err(Refusal::Identifier);
     }
-    missing == 0
+    let counts = marking::mark_sheet(store, name, sheet).ok_or(Refusal::NoSheet)?;
+    if marks.len() < 32 {
+        return Err(Refusal::ShortBuffer);
+    }
+    tally::update(marks, counts);
+    Ok(is_full(counts))
 }
 
 // Marks a sheet: its four counts replace those of the mark sheet, and the answer is whether it has full
@@ -28,20 +43,8 @@ fn is_full(repeated: u64, wrong: u64, missing: u64) -> bool
 pub fn mark_list(store: &[u8], name: &[u8], sheet: &[u8], marks: &mut [u8]) -> u64
     ensures { AskedInto (mark name.now sheet.now) store.now marks.old result marks.new }
 {
-    if !audit::is_good(store) {
-        return refuse(3);
+    match try_mark(store, name, sheet, marks) {
+        Ok(full) => pack(full, 0, 0, 0),
+        Err(refusal) => refuse(refusal),
     }
-    if !is_identifier(name) {
-        return refuse(10);
-    }
-    let SheetMarks::Counted(right, repeated, wrong, missing) = marking::mark_sheet(
-        store, name, sheet,
-    ) else {
-        return refuse(13);
-    };
-    if marks.len() < 32 {
-        return refuse(9);
-    }
-    tally::update(marks, right, repeated, wrong, missing);
-    pack(is_full(repeated, wrong, missing), 0, 0, 0)
 }

@@ -13,13 +13,13 @@ use Rattle.palindromes.specs.Marks.{named, Mark, right, repeated, wrong, mark_of
 use Rattle.store.specs.Layout.{count_in, letters_in}
 use Rattle.store.specs.Good.{rule_of, Good}
 use Rattle.bed_reader.specs.declared.Entry.{Entry}
-use Rattle.bed_reader.specs.declared.Parsed.TheVariants.{ALine, NoLine}
+use Rattle.std.specs.Prelude.{Some, None}
 use Rattle.bed_reader.specs.Reading.{place_of, parsed_of}
 use Rattle.bed_reader.proofs.Fields.{place-most}
 use Rattle.bed_reader.proofs.Parsing.{behind}
 use Rattle.bed_reader.proofs.Lines.{sheet-line, sheet-unended, sheet-empty, parsed-none, parsed-line}
 use Rattle.line_marks.specs.declared.SoFar.{SoFar}
-use Rattle.marking.specs.declared.SheetMarks.TheVariants.{Counted, NoSheet}
+use Rattle.tally.specs.declared.Tally.{Tally}
 use Rattle.line_marks.specs.LineMarks.{with_mark, mark_in, before_next, Named, CountsLine}
 use Rattle.marking.specs.SheetMarks.{counts_in, sheet_marks_of}
 use Rattle.line_marks.proofs.Naming.{none_named}
@@ -35,6 +35,10 @@ total t = t.right + t.repeated + t.wrong
 
 abbrev nothing_yet : SoFar
 nothing_yet = record { right = 0; repeated = 0; wrong = 0 }
+
+-- a sheet without a line
+abbrev pub missing_alone : ℕ → Tally
+missing_alone n = record { right = 0; repeated = 0; wrong = 0; missing = n }
 
 same-counts : {a a' b b' c c' : ℕ} {d : ℕ} → a ≡ a' → b ≡ b' → c ≡ c'
     → ◌≡◌ {A = Counts} (record { right = a; repeated = b; wrong = c; missing = d }) (record { right = a'; repeated = b'; wrong = c'; missing = d })
@@ -116,22 +120,22 @@ module _ {b : Word} (g : Good b) (identifier sheet : Word) where
       record { before = []; names = a; within = omega arith; goes_on = on-nothing whole; right_is = refl; few = omega arith }
 
   -- what is left is no sheet, so the whole is none
-  pub no-sheet : {marks : Word} {t : SoFar} {at : ℕ} → Counting marks t at → sheet_lines (drop at sheet) ≡ none → NoSheet ≡ sheet_marks_of whole
+  pub no-sheet : {marks : Word} {t : SoFar} {at : ℕ} → Counting marks t at → sheet_lines (drop at sheet) ≡ none → None ≡ sheet_marks_of whole
   unfolding counts_in sheet_marks_of
   no-sheet {t = t} c e =
       ap sheet_marks_of (sym (ap (λ (o : Option (List Line)). on_top t (counts_in (rule_of b) identifier (letters_in b) c.before o)) e) ∙ c.goes_on)
 
   module _ {marks : Word} {t : SoFar} {at n : ℕ} (c : Counting marks t at) (e : n ≡ place_of 10 (take (length sheet - at) (drop at sheet))) where
-    pub not-ended : at < length sheet → length sheet ≤ at + n → NoSheet ≡ sheet_marks_of whole
+    pub not-ended : at < length sheet → length sheet ≤ at + n → None ≡ sheet_marks_of whole
     not-ended h k = no-sheet c (unended sheet at n e h k)
 
     module _ (h : at + n < length sheet) where
-      pub bad-line : parsed_of identifier (line_of (split 9 (take (at + n - at) (drop at sheet)))) ≡ NoLine → NoSheet ≡ sheet_marks_of whole
+      pub bad-line : parsed_of identifier (line_of (split 9 (take (at + n - at) (drop at sheet)))) ≡ None → None ≡ sheet_marks_of whole
       unfolding with_line
       bad-line p = no-sheet c
           (line_read sheet at n e h ∙ ap (λ (o : Option Line). with_line o (sheet_lines (drop (at + n + 1) sheet))) (parsed-none identifier _ p))
 
-      pub good-line : {x : Entry} {marks' : Word} {t' : SoFar} → parsed_of identifier (line_of (split 9 (take (at + n - at) (drop at sheet)))) ≡ ALine x
+      pub good-line : {x : Entry} {marks' : Word} {t' : SoFar} → parsed_of identifier (line_of (split 9 (take (at + n - at) (drop at sheet)))) ≡ Some x
           → CountsLine b x t marks t' marks'
           → Counting marks' t' (at + n + 1)
       good-line {x} {marks'} {t'} p q =
@@ -157,7 +161,7 @@ module _ {b : Word} (g : Good b) (identifier sheet : Word) where
 
   -- no line is left
   pub all-counted : {marks : Word} {t : SoFar} {at n : ℕ} → Counting marks t at → length sheet ≤ at → n ≡ count_in b
-      → Counted t.right t.repeated t.wrong (n - t.right) ≡ sheet_marks_of whole
+      → Some (record { right = t.right; repeated = t.repeated; wrong = t.wrong; missing = n - t.right }) ≡ sheet_marks_of whole
   unfolding counts_in counts_from sheet_marks_of
   all-counted {t = t} {at = at} {n = n} c h e =
       let r : t.right + 0 ≡ t.right = omega arith in
@@ -171,7 +175,8 @@ module _ {b : Word} (g : Good b) (identifier sheet : Word) where
   right-most c = omega (arith, c.names.left, c.right_is, g.count-is)
 
   -- no line at all
-  pub none-counted : {n : ℕ} → length sheet ≤ 0 → n ≡ count_in b → Counted 0 0 0 n ≡ sheet_marks_of whole
+  pub none-counted : {n : ℕ} → length sheet ≤ 0 → n ≡ count_in b
+      → Some (missing_alone n) ≡ sheet_marks_of whole
   none-counted {n} h e =
       let z : n ≡ n - 0 = omega arith in
-      ap (Counted 0 0 0) z ∙ all-counted (counting-first (replicate 128 0) (none_named g (replicate 128 0) refl)) h e
+      ap (λ (m : ℕ). Some (missing_alone m)) z ∙ all-counted (counting-first (replicate 128 0) (none_named g (replicate 128 0) refl)) h e

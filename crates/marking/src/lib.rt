@@ -7,21 +7,14 @@ ghost use Rattle.end_rows.specs.EndRows.{EndRows};
 ghost use Rattle.interval_rows.specs.IntervalRow.{Jumps};
 ghost use Rattle.marking.specs.SheetMarks.{marks_of};
 
-use bed_reader::{Parsed, find_byte, parse};
+use bed_reader::{find_byte, parse};
 use end_rows::rows_at_ends;
 use interval_rows::fill_jumps;
 use line_marks::{SoFar, count_line};
 use store::header;
+use tally::Tally;
 
-// What a sheet is worth: how many lines are right, repeated and wrong, and how many palindromes are
-// missing; or that it is no sheet.
-#[derive(Clone, Copy)]
-pub enum SheetMarks {
-    Counted(u64, u64, u64, u64),
-    NoSheet,
-}
-
-// Marks a sheet's lines, with marks that begin empty.
+// Marks a sheet's lines, with marks that begin empty: what the sheet is worth, if it is one.
 fn mark_lines(
     b: &[u8],
     ends: &[u16],
@@ -29,7 +22,7 @@ fn mark_lines(
     marks: &mut [u8],
     identifier: &[u8],
     sheet: &[u8],
-) -> SheetMarks
+) -> Option<Tally>
     requires good { Good b.now }
     requires end_rows { EndRows b.now ends.now × Jumps b.now jumps.now }
     requires marks_value { marks.old ≡ replicate 128 0 }
@@ -44,25 +37,33 @@ fn mark_lines(
     while at < sheet.len() {
         let stop = at + find_byte(&sheet[at..], b'\n');
         if sheet.len() <= stop {
-            return SheetMarks::NoSheet;
+            return None;
         }
-        let Parsed::ALine(x) = parse(&sheet[at..stop], identifier) else {
-            return SheetMarks::NoSheet;
-        };
+        let x = parse(&sheet[at..stop], identifier)?;
         above = count_line(b, ends, jumps, marks, x, above);
         at = stop + 1;
     }
-    let missing = header::count(b) as u64 - above.right;
-    SheetMarks::Counted(above.right, above.repeated, above.wrong, missing)
+    Some(Tally {
+        right: above.right,
+        repeated: above.repeated,
+        wrong: above.wrong,
+        missing: header::count(b) as u64 - above.right,
+    })
 }
 
-// Marks a sheet. An empty one wants no tables.
-pub fn mark_sheet(b: &[u8], identifier: &[u8], sheet: &[u8]) -> SheetMarks
+// What a sheet is worth, if it is one: how many lines are right, repeated and wrong, and how many
+// palindromes are missing. An empty one wants no tables.
+pub fn mark_sheet(b: &[u8], identifier: &[u8], sheet: &[u8]) -> Option<Tally>
     requires { Good b.now }
     ensures { result ≡ marks_of b.now identifier.now sheet.now }
 {
-    if sheet.len() == 0 {
-        return SheetMarks::Counted(0, 0, 0, header::count(b) as u64);
+    if sheet.is_empty() {
+        return Some(Tally {
+            right: 0,
+            repeated: 0,
+            wrong: 0,
+            missing: header::count(b) as u64,
+        });
     }
     let mut ends = [0u16; 1024];
     let mut jumps = [0u16; 1026];

@@ -5,7 +5,6 @@ ghost use Rattle.outcome.specs.Reply.{packed};
 ghost use Rattle.outcome.specs.Answers.{added_reply, removed_reply, found_reply};
 
 use super::pack;
-use store::cells::wide;
 
 // What an addition answers: the row of the palindrome that came in, or that none did, and how many
 // candidates were passed in the search for it.
@@ -47,8 +46,8 @@ pub fn answer_removed(removed: Removed) -> u64
     ensures { result ≡ packed (removed_reply removed) }
 {
     match removed {
-        Removed::Gone(letter, row) => pack(true, row, wide(letter), 0),
-        Removed::Kept(letter) => pack(false, 0, wide(letter), 0),
+        Removed::Gone(letter, row) => pack(true, row, usize::from(letter), 0),
+        Removed::Kept(letter) => pack(false, 0, usize::from(letter), 0),
     }
 }
 

@@ -41,7 +41,7 @@ pub fn table(reading: usize) -> [u8; 256]
 pub fn partner_in(partners: &[u8; 256], c: u8) -> u8
     ensures { result ≡ get_or partners.now c 0 }
 {
-    partners[c as usize]
+    partners[usize::from(c)]
 }
 
 // The partners of the four letters in a reading, each at its letter's place: for whoever reads the
@@ -51,9 +51,10 @@ pub fn of_letters(reading: usize) -> [u8; 4]
     ensures { LetterPartners reading result }
 {
     if reading == 1 {
-        return [PARTNERS[65], PARTNERS[67], PARTNERS[84], PARTNERS[71]];
+        [PARTNERS[65], PARTNERS[67], PARTNERS[84], PARTNERS[71]]
+    } else {
+        [b'A', b'C', b'T', b'G']
     }
-    [b'A', b'C', b'T', b'G']
 }
 
 // The partner of a letter, by a table of the letters' partners. Two bits of a letter's byte tell the
@@ -61,5 +62,5 @@ pub fn of_letters(reading: usize) -> [u8; 4]
 pub fn of_letter(partners: &[u8; 4], c: u8) -> u8
     ensures { result ≡ get_or partners.now (place_of c) 0 }
 {
-    partners[(c / 2 % 4) as usize]
+    partners[usize::from(c / 2 % 4)]
 }

@@ -1,23 +1,29 @@
 -- What the questions about the record promise, on plain values. Rests on `Refusals`, `Promises` and `Fits` of the outcomes.
-use Prim.Native.Nat.{ℕ, ◌-◌, ◌≤◌, ◌<◌}
+use Prim.Native.Nat.{ℕ, ◌≤◌, ◌<◌}
 use mathlib.Core.Path.{◌≡◌, refl, sym, ap, ◌∙◌}
 use mathlib.Core.Bool.{Bool, true, false}
 use native.Mathlib.Omega.{arith}
 use lib.Dec.{leb}
 use lib.ListN.{length, get_or}
 use borrow.Author.Tests.{leb-true, leb-false}
+use Rattle.refusal.specs.declared.Refusal.TheVariants.{Damaged}
+use Rattle.refusal.specs.Number.{number_of}
 use Rattle.palindromes.specs.Word.{Word}
 use Rattle.palindromes.specs.Record.{count}
-use Rattle.palindromes.specs.Refusal.{ask, the_length, the_count, the_longest_length, the_letter}
+use Rattle.palindromes.specs.Refusal.{Question, ask, the_length, the_count, the_longest_length, the_letter}
 use Rattle.store.specs.Layout.{longest_length_in, letters_in}
 use Rattle.store.specs.Good.{rule_of, Good}
-use Rattle.outcome.specs.Reply.{packed, accepted}
+use Rattle.outcome.specs.Reply.{packed, accepted, refused_with}
 use Rattle.outcome.specs.Outcome.{accepted_outcome, answer_to, lent_after, changed}
 use Rattle.outcome.specs.Promise.{nothing, Promise}
-use Rattle.outcome.specs.Verdict.{Verdict, judged}
+use Rattle.outcome.specs.Verdict.{Verdict, damaged, judged}
 use Rattle.outcome.proofs.Refusals.{length-accepted, count-accepted, longest-length-accepted, letter-outside, letter-accepted}
-use Rattle.outcome.proofs.Promises.{Answerable, carried}
+use Rattle.outcome.proofs.Promises.{by-refusal, Answerable, carried}
 use Rattle.outcome.proofs.Fits.{few, answer-fits}
+
+-- a store that is not good is refused
+pub damaged-refused : (q : Question) (b : Word) {r : ℕ} → (Good b → ⊥) → r ≡ packed (refused_with (number_of Damaged)) → Promise (ask q) b nothing r b nothing
+damaged-refused q b n e = by-refusal (ask q) b nothing Damaged (damaged n refl) e
 
 module _ (b : Word) (g : Good b) where
   pub length-answered : {r : ℕ} → r ≡ packed (accepted false 0 (length (letters_in b)) 0) → Promise (ask the_length) b nothing r b nothing

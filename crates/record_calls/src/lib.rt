@@ -5,10 +5,11 @@
 
 ghost use Rattle.palindromes.specs.Refusal.{ask, the_length, the_count, the_longest_length, the_letter};
 ghost use Rattle.outcome.specs.Promise.{nothing, Asked};
-ghost use Rattle.outcome.specs.Verdict.{Verdict};
+ghost use Rattle.outcome.specs.Verdict.{Verdict, judged_number};
 
 use outcome::{pack, refuse};
 use questions::record;
+use refusal::Refusal;
 use store::header;
 
 // How many letters stand.
@@ -16,7 +17,7 @@ pub fn length(store: &[u8]) -> u64
     ensures { Asked the_length store.now nothing result nothing }
 {
     if !audit::is_good(store) {
-        return refuse(3);
+        return refuse(Refusal::Damaged);
     }
     pack(false, 0, record::length(store), 0)
 }
@@ -26,7 +27,7 @@ pub fn count(store: &[u8]) -> u64
     ensures { Asked the_count store.now nothing result nothing }
 {
     if !audit::is_good(store) {
-        return refuse(3);
+        return refuse(Refusal::Damaged);
     }
     pack(false, 0, record::count(store), 0)
 }
@@ -36,36 +37,33 @@ pub fn longest_length(store: &[u8]) -> u64
     ensures { Asked the_longest_length store.now nothing result nothing }
 {
     if !audit::is_good(store) {
-        return refuse(3);
+        return refuse(Refusal::Damaged);
     }
     pack(false, 0, header::longest(store), 0)
 }
 
-// The refusal number of asking a letter, 0 where it can be answered.
-fn judge_letter(store: &[u8], place: u64) -> u64
-    ensures { Verdict (ask (the_letter place)) store.now nothing result }
+// Why a letter cannot be told, if it cannot.
+fn judge_letter(store: &[u8], place: u64) -> Result<(), Refusal>
+    ensures { Verdict (ask (the_letter place)) store.now nothing (judged_number result) }
 {
     if !audit::is_good(store) {
-        return 3;
+        return Err(Refusal::Damaged);
     }
     if record::length(store) as u64 <= place {
-        return 7;
+        return Err(Refusal::NoSuchPlace);
     }
-    0
+    Ok(())
 }
 
 // The letter at a place.
 pub fn letter(store: &[u8], place: u64) -> u64
     ensures { Asked (the_letter place) store.now nothing result nothing }
 {
-    let number = judge_letter(store, place);
-    if number != 0 {
-        return refuse(number);
+    match judge_letter(store, place) {
+        Ok(()) => {
+            let letter = record::letter(store, place as usize);
+            pack(false, 0, usize::from(letter), 0)
+        }
+        Err(refusal) => refuse(refusal),
     }
-    pack(
-        false,
-        0,
-        store::cells::wide(record::letter(store, place as usize)),
-        0,
-    )
 }

@@ -52,7 +52,3 @@ unfolding accepted_outcome changed longest_before
 removed e b a h q p s =
     carried (remove e) b nothing h.good h.clear
     (record { reply = p ∙ ap (λ (x : Removed). packed (removed_reply x)) (q ∙ ap (removed_of (takes_out e b) (letter_at e (letters_in b))) (end_row_lem h.good e)); store = s; lent = refl })
-
--- what holds of the end that a side is holds of the end named; said so, a side named wrongly shows as two ends that differ
-pub at-end : {d e : End} {b : Word} {r : ℕ} {b' : Word} → Promise (remove d) b nothing r b' nothing → d ≡ e → Promise (remove e) b nothing r b' nothing
-at-end {b = b} {r} {b'} h p = subst (λ (e : End). Promise (remove e) b nothing r b' nothing) p h

@@ -1,9 +1,13 @@
 -- What the question about a row promises, on plain values. Rests on `Refusals`, `Promises` and `Fits` of the outcomes.
-use Prim.Native.Nat.{ℕ, zero, suc, ◌-◌, ◌<◌}
-use mathlib.Core.Path.{◌≡◌, refl, sym, ap, ◌∙◌}
+use Prim.Native.Nat.{ℕ, zero, suc, ◌<◌}
+use mathlib.Core.Path.{◌≡◌, refl, sym, ap, ◌∙◌, subst}
 use mathlib.Core.Bool.{true, false}
 use native.Mathlib.Omega.{arith}
-use lib.IntN.{ℤ, pos, pred_ℤ}
+use lib.IntN.{ℤ, pos, pred_ℤ, nat_abs}
+use mir.Syntax.{w32}
+use mir.Val.{to_z, of_z}
+use mir.Facts.{to_z-of_z}
+use Rattle.std.specs.Int.{int_rem_euclid}
 use Rattle.palindromes.specs.Word.{Word}
 use Rattle.palindromes.specs.Node.{length_of, link_of, inner_of}
 use Rattle.palindromes.specs.Refusal.{ask, the_row}
@@ -52,16 +56,27 @@ row-few q b a e f h = let s = answer-fits a.good (the_row q) nothing a.clear in 
 pub row-packs : {n m k n' m' k' : ℕ} → n ≡ n' → k ≡ k' → m ≡ m' → packed (accepted false n k m) ≡ packed (accepted false n' k' m')
 row-packs p q r = cc
 
-pub below-nought : (z : ℤ) → Stored z → (n : ℕ) → ((m : ℕ) → z ≡ pred_ℤ (pos m) → n ≡ m) → n ≡ 0 → (65535 ≡ twos_complement z) × (65535 < 65536)
+-- modulo 2 ^ 16 a length is its two's complement number
+modulo : (m : ℕ) → m < 65536 → int_rem_euclid (pred_ℤ (pos m)) (pos 65536) ≡ pos (twos_complement (pred_ℤ (pos m)))
 unfolding twos_complement
-below-nought z s n f e =
-    let k : s.number ≡ 0 = sym (f s.number s.is) ∙ e in
-    (sym (ap twos_complement (s.is ∙ ap (λ (m : ℕ). pred_ℤ (pos m)) k)), omega arith)
+modulo zero h = refl
+modulo (suc m) h = ap pos (omega arith)
 
-pub above-nought : (z : ℤ) → Stored z → (n : ℕ) → ((m : ℕ) → z ≡ pred_ℤ (pos m) → n ≡ m) → (n ≡ 0 → ⊥) → (n - 1 ≡ twos_complement z) × (n - 1 < 65536)
+two-bytes : (m : ℕ) → m < 65536 → twos_complement (pred_ℤ (pos m)) < 65536
 unfolding twos_complement
-above-nought z s zero f h = absurd (h refl)
-above-nought z s (suc n) f h =
-    let k : suc n ≡ s.number = f s.number s.is in
-    let e : z ≡ pos n = s.is ∙ ap (λ (m : ℕ). pred_ℤ (pos m)) (sym k) in
-    (omega (arith, ap twos_complement e), omega (arith, s.small))
+two-bytes zero h = omega arith
+two-bytes (suc m) h = omega arith
+
+-- and that number is read back from an i32 as it is
+read-back : (n : ℕ) → n < 65536 → to_z w32 (of_z w32 (pos n)) ≡ pos n
+read-back n h = to_z-of_z {w = w32} (record { sfits = omega arith })
+
+pub low-bytes : (z r : ℤ) → Stored z → r ≡ int_rem_euclid z (pos 65536)
+    → (nat_abs (to_z w32 (of_z w32 r)) ≡ twos_complement z) × (nat_abs (to_z w32 (of_z w32 r)) < 65536)
+low-bytes z r s e =
+    let small : twos_complement z < 65536 = subst (λ (y : ℤ). twos_complement y < 65536) (sym s.is) (two-bytes s.number s.small) in
+    let left : int_rem_euclid z (pos 65536) ≡ pos (twos_complement z) =
+    subst (λ (y : ℤ). int_rem_euclid y (pos 65536) ≡ pos (twos_complement y)) (sym s.is) (modulo s.number s.small) in
+    let is : nat_abs (to_z w32 (of_z w32 r)) ≡ twos_complement z =
+    ap (λ (y : ℤ). nat_abs (to_z w32 (of_z w32 y))) (e ∙ left) ∙ ap nat_abs (read-back (twos_complement z) small) in
+    (is, omega (arith, is, small))

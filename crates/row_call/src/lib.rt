@@ -7,22 +7,23 @@ ghost use Rattle.palindromes.specs.Refusal.{ask, the_row};
 ghost use Rattle.store.specs.Lengths.{Stored};
 ghost use Rattle.outcome.specs.Reply.{twos_complement};
 ghost use Rattle.outcome.specs.Promise.{nothing, Asked};
-ghost use Rattle.outcome.specs.Verdict.{Verdict};
+ghost use Rattle.outcome.specs.Verdict.{Verdict, judged_number};
 
 use outcome::{pack, refuse};
 use questions::rows;
+use refusal::Refusal;
 
-// The refusal number of asking a row, 0 where it can be answered.
-fn judge_row(store: &[u8], row: u64) -> u64
-    ensures { Verdict (ask (the_row row)) store.now nothing result }
+// Why a row cannot be told, if it cannot.
+fn judge_row(store: &[u8], row: u64) -> Result<(), Refusal>
+    ensures { Verdict (ask (the_row row)) store.now nothing (judged_number result) }
 {
     if !audit::is_good(store) {
-        return 3;
+        return Err(Refusal::Damaged);
     }
     if !rows::is_used(store, row as usize) {
-        return 7;
+        return Err(Refusal::NoSuchPlace);
     }
-    0
+    Ok(())
 }
 
 // A signed length as a 16-bit two's complement number.
@@ -30,21 +31,18 @@ fn two_bytes(length: i32) -> usize
     requires { Stored length }
     ensures { (result ≡ twos_complement length) × (result < 65536) }
 {
-    let stored = store::lengths::to_stored(length);
-    if stored == 0 {
-        return 65535;
-    }
-    stored - 1
+    length.rem_euclid(65536) as usize
 }
 
 // A row's length, link and inner row.
 pub fn row(store: &[u8], row: u64) -> u64
     ensures { Asked (the_row row) store.now nothing result nothing }
 {
-    let number = judge_row(store, row);
-    if number != 0 {
-        return refuse(number);
+    match judge_row(store, row) {
+        Ok(()) => {
+            let found = rows::row(store, row as usize);
+            pack(false, found.link, two_bytes(found.length), found.inner)
+        }
+        Err(refusal) => refuse(refusal),
     }
-    let found = rows::row(store, row as usize);
-    pack(false, found.link, two_bytes(found.length), found.inner)
 }

@@ -1,15 +1,14 @@
 -- A part of a list that is written in one go, `sets l at w`: what it holds afterwards, what stays as it was, and how two such writes make one. These are the laws by
--- which the loops that move letters, and all who write letters, are understood. Rests on the library's laws of `set`, `take`, `drop` and `sets`.
-use Prim.Native.Nat.{ℕ, suc, ◌+◌, ◌-◌, ◌≤◌, ◌<◌}
+-- which all who move and write letters are understood. Rests on the library's laws of `set`, `take`, `drop` and `sets`.
+use Prim.Native.Nat.{ℕ, suc, ◌+◌, ◌≤◌, ◌<◌}
 use native.Mathlib.Nat.{add-zero}
-use native.Mathlib.Numerals.{add-one}
 use native.Mathlib.Omega.{arith}
 use mathlib.Core.Path.{◌≡◌, refl, sym, ap, ◌∙◌}
 use mathlib.Core.Logic.{◌≢◌}
 use mathlib.Core.List.{[], ◌∷◌, ◌++◌, append_assoc}
-use lib.ListN.{length, take, drop, get_or, set, replicate, take-append-drop}
+use lib.ListN.{length, take, drop, get_or, set, take-append-drop}
 use lib.ListN.{length-drop}
-use lib.Seq.{sets, length-sets, ext_get_or, sets-eq, set_comm, get_or-set_other, get_or-drop, take-add, take-suc, drop-cons, take_at, drop_at, length-take-le}
+use lib.Seq.{sets, length-sets, ext_get_or, sets-eq, set_comm, get_or-set_other, get_or-drop, take-add, take_at, drop_at, length-take-le}
 use Rattle.palindromes.specs.Word.{Word}
 
 -- ---- what a write leaves
@@ -59,47 +58,3 @@ pub sets_same : (l : Word) (at n : ℕ) → at + n ≤ length l → sets l at (t
 sets_same l at n h =
     let e : length (take n (drop at l)) ≡ n = length-take-le n (drop at l) (rw length-drop (omega arith)) in
     cc (sets-eq (take n (drop at l)) l at (omega arith), e, take-add at n l, take-append-drop (at + n) l)
-
--- ---- elements that move by one place
-
--- n elements from `base` on move one place to the right, the last one first: what stands when k of them are still to move
-abbrev pub moved_right : Word → ℕ → ℕ → ℕ → Word
-moved_right l base n k = sets l (base + k + 1) (take (n - k) (drop (base + k) l))
-
-pub right-step : (l : Word) (base n k : ℕ) → k < n → base + n < length l
-    → set (moved_right l base n (k + 1)) (base + k + 1) (get_or (moved_right l base n (k + 1)) (base + k) 0) ≡ moved_right l base n k
-right-step l base n k h fits =
-    let w = take (n - (k + 1)) (drop (suc (base + k)) l) in
-    let below : base + (k + 1) ≡ suc (base + k) = omega arith in
-    let left : n - k ≡ suc (n - (k + 1)) = omega arith in
-    cc (
-      below,
-      left,
-      drop-cons l (base + k) 0 (omega arith),
-      add-one (base + k),
-      add-one (suc (base + k)),
-      sets-outside l (suc (suc (base + k))) w (base + k) (omega arith),
-      sets-cons l (suc (base + k)) (suc (suc (base + k))) (get_or l (base + k) 0) w (omega arith),
-    )
-
--- n elements behind `base` move one place to the left, the first one first: what stands when k of them have moved
-abbrev pub moved_left : Word → ℕ → ℕ → Word
-moved_left l base k = sets l base (take k (drop (base + 1) l))
-
-pub left_step : (l : Word) (base k : ℕ) → base + 1 + k < length l
-    → set (moved_left l base k) (base + k) (get_or (moved_left l base k) (base + 1 + k) 0) ≡ moved_left l base (k + 1)
-left_step l base k h =
-    let d = drop (base + 1) l in
-    let long : k < length d = rw length-drop (omega arith) in
-    let size : length (take k d) ≡ k = length-take-le k d (omega arith) in
-    cc (
-      add-one k,
-      take-suc d k 0 long,
-      get_or-drop (base + 1) l k 0,
-      sets-snoc l base (take k d) k (get_or d k 0) size,
-      sets-outside l base (take k d) (base + 1 + k) (omega arith),
-    )
-
--- zeros may be stored one after the other
-pub zeros-next : (l : Word) (i n : ℕ) → i < n → sets (set l i 0) (i + 1) (replicate (n - (i + 1)) 0) ≡ sets l i (replicate (n - i) 0)
-zeros-next l i n h = let e : n - i ≡ suc (n - (i + 1)) = omega arith in rw (e, add-one)

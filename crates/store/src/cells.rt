@@ -2,20 +2,13 @@
 ghost use Rattle.std.specs.Prelude.{◌≡◌, ◌+◌, ◌*◌, ◌<◌, length};
 ghost use Rattle.store.specs.Layout.{cell_at, cell, set_cell};
 
-// A byte as an index.
-pub fn wide(x: u8) -> usize
-    ensures { (result ≡ x) × (result < 256) }
-{
-    x as usize
-}
-
 // The number in cell f of row r.
 pub fn get(b: &[u8], r: usize, f: usize) -> usize
     requires { cell_at r f + 1 < length b.now }
     ensures { (result ≡ cell b.now r f) × (result < 65536) }
 {
     let at = 24 * r + 2 * f;
-    wide(b[at]) + 256 * wide(b[at + 1])
+    usize::from(u16::from_le_bytes([b[at], b[at + 1]]))
 }
 
 // Puts the number v into cell f of row r.
@@ -24,6 +17,7 @@ pub fn put(b: &mut [u8], r: usize, f: usize, v: usize)
     ensures { b.new ≡ set_cell b.old r f v }
 {
     let at = 24 * r + 2 * f;
-    b[at] = (v % 256) as u8;
-    b[at + 1] = (v / 256 % 256) as u8;
+    let [low, high, ..] = v.to_le_bytes();
+    b[at] = low;
+    b[at + 1] = high;
 }

@@ -50,10 +50,7 @@ pub fn longest(b: &[u8]) -> usize
 pub fn end_cell(side: Side) -> usize
     ensures { (result ≡ end_cell (end_of side)) × (result < 10) }
 {
-    match side {
-        Side::Left => 8,
-        Side::Right => 9,
-    }
+    side.pick(8, 9)
 }
 
 // The row of the longest palindrome at a side.

@@ -4,13 +4,6 @@ ghost use Rattle.std.specs.Prelude.{◌≡◌, ℕ, ◌+◌, ◌<◌, pos};
 ghost use Rattle.std.proofs.Math.IntN.{pred_ℤ};
 ghost use Rattle.store.specs.Lengths.{Stored, place_before};
 
-// Where a letter stands that is to be compared, or that there is none.
-#[derive(Clone, Copy)]
-pub enum Place {
-    At(usize),
-    Outside,
-}
-
 // The length that is stored as m.
 pub fn from_stored(m: usize) -> i32
     requires { m < 65536 }
@@ -35,14 +28,11 @@ pub fn plus_two(length: i32) -> i32
     length + 2
 }
 
-// The place just before the last `length` of k letters; for the imaginary string, place k itself.
-pub fn before(k: usize, length: i32) -> Place
+// The place just before the last `length` of k letters; for the imaginary string, place k itself. There
+// is none where there are fewer letters.
+pub fn before(k: usize, length: i32) -> Option<usize>
     requires { (k < 65536) × Stored length }
     ensures { (m : ℕ) → length ≡ pred_ℤ (pos m) → result ≡ place_before k m }
 {
-    let m = to_stored(length);
-    if k < m {
-        return Place::Outside;
-    }
-    Place::At(k - m)
+    k.checked_sub(to_stored(length))
 }

@@ -123,7 +123,7 @@ pub fn put_row(b: &mut [u8], r: usize, row: Row)
     cells::put(b, r, 0, lengths::to_stored(row.length));
     cells::put(b, r, 1, row.link);
     cells::put(b, r, 2, row.inner);
-    cells::put(b, r, 3, cells::wide(row.outer));
+    cells::put(b, r, 3, usize::from(row.outer));
 }
 
 // Puts the length of row r's palindrome.

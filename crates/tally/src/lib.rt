@@ -2,10 +2,10 @@
 // missing. Within the library it is a struct, and the host lends it as 32 bytes.
 #![tactic(auto)]
 
-ghost use Rattle.std.specs.Prelude.{◌≡◌, ◌+◌, ◌≤◌, ◌<◌, length, take, drop};
+ghost use Rattle.std.specs.Prelude.{◌≡◌, ◌+◌, ◌≤◌, length, take, drop};
 ghost use Rattle.std.proofs.lemmas.List.Edits.{sets};
 ghost use Rattle.palindromes.specs.Marks.{low_bytes, from_bytes, counts_bytes, counts_read};
-ghost use Rattle.tally.specs.Counts.{counts_in, four_counts};
+ghost use Rattle.tally.specs.Counts.{counts_in};
 
 #[derive(Clone, Copy)]
 pub struct Tally {
@@ -32,33 +32,14 @@ pub fn replaced(was: Tally, counts: Tally) -> Tally
     tally
 }
 
-// A byte as a number.
-fn wide(x: u8) -> u64
-    ensures { (result ≡ x) × (result < 256) }
-{
-    x as u64
-}
-
-// The numbers in two, four and eight bytes from a place on, low byte first.
-fn two_at(sheet: &[u8], at: usize) -> u64
-    requires { at + 2 ≤ length sheet.now }
-    ensures { (result ≡ from_bytes (take 2 (drop at sheet.now))) × (result < 65536) }
-{
-    wide(sheet[at]) + 256 * wide(sheet[at + 1])
-}
-
-fn four_at(sheet: &[u8], at: usize) -> u64
-    requires { at + 4 ≤ length sheet.now }
-    ensures { (result ≡ from_bytes (take 4 (drop at sheet.now))) × (result < 4294967296) }
-{
-    two_at(sheet, at) + 65536 * two_at(sheet, at + 2)
-}
-
+// The number in eight bytes from a place on, low byte first.
 fn count_at(sheet: &[u8], at: usize) -> u64
     requires { at + 8 ≤ length sheet.now }
     ensures { result ≡ from_bytes (take 8 (drop at sheet.now)) }
 {
-    four_at(sheet, at) + 4294967296 * four_at(sheet, at + 4)
+    let mut bytes = [0u8; 8];
+    bytes.copy_from_slice(&sheet[at..at + 8]);
+    u64::from_le_bytes(bytes)
 }
 
 // Writes a number as eight bytes from a place on, low byte first.
@@ -66,13 +47,7 @@ fn put_count(sheet: &mut [u8], at: usize, n: u64)
     requires { at + 8 ≤ length sheet.old }
     ensures { sheet.new ≡ sets sheet.old at (low_bytes 8 n) }
 {
-    let mut rest = n;
-    let mut i: usize = 0;
-    while i < 8 {
-        sheet[at + i] = (rest % 256) as u8;
-        rest = rest / 256;
-        i += 1;
-    }
+    sheet[at..at + 8].copy_from_slice(&n.to_le_bytes());
 }
 
 // The counts that a mark sheet's bytes hold.
@@ -100,16 +75,10 @@ fn put_tally(sheet: &mut [u8], t: Tally)
 }
 
 // Replaces the four counts of a mark sheet that is lent as bytes.
-pub fn update(sheet: &mut [u8], right: u64, repeated: u64, wrong: u64, missing: u64)
+pub fn update(sheet: &mut [u8], counts: Tally)
     requires { 32 ≤ length sheet.old }
-    ensures { sheet.new ≡ sets sheet.old 0 (counts_bytes (four_counts right repeated wrong missing)) }
+    ensures { sheet.new ≡ sets sheet.old 0 (counts_bytes (counts_in counts)) }
 {
     let was = tally_in(sheet);
-    let counts = Tally {
-        right: right,
-        repeated: repeated,
-        wrong: wrong,
-        missing: missing,
-    };
     put_tally(sheet, replaced(was, counts));
 }

@@ -1,6 +1,6 @@
 -- What a change of the reading promises, on plain values. Rests on `Promises` of the outcomes.
 use Prim.Native.Nat.{ℕ}
-use mathlib.Core.Path.{◌≡◌, refl, subst}
+use mathlib.Core.Path.{◌≡◌, refl}
 use mathlib.Core.Bool.{false}
 use Rattle.palindromes.specs.Word.{Word}
 use Rattle.palindromes.specs.Reading.{Reading, reading_number}
@@ -17,7 +17,3 @@ use Rattle.outcome.proofs.Promises.{carried}
 pub turned-to : (way : Reading) (b : Word) {r : ℕ} {b' : Word} → Good b → r ≡ packed (accepted false 0 0 0) → b' ≡ turned (reading_number way) b → Promise (turn way) b nothing r b' nothing
 unfolding accepted_outcome changed
 turned-to way b g e f = carried (turn way) b nothing g (turn-accepted b nothing way) (record { reply = e; store = f; lent = refl })
-
--- what holds of the reading that the code names holds of the reading that the call is for; said so, a reading named wrongly shows as two readings that differ
-pub in-reading : {v w : Reading} {b : Word} {r : ℕ} {b' : Word} → Promise (turn v) b nothing r b' nothing → v ≡ w → Promise (turn w) b nothing r b' nothing
-in-reading {b = b} {r} {b'} h p = subst (λ (w : Reading). Promise (turn w) b nothing r b' nothing) p h

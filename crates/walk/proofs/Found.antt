@@ -13,6 +13,7 @@ use lib.Dec.{leb, eqb}
 use lib.ListN.{length, get_or, take}
 use lib.Seq.{length-take-le, get_or-take}
 use borrow.Author.Tests.{leb-true, le-leb, eqb-true, eqb-false, eq-eqb}
+use Rattle.std.specs.Prelude.{Option}
 use Rattle.palindromes.specs.Word.{Word}
 use Rattle.palindromes.specs.Palindrome.{SelfInverse}
 use Rattle.palindromes.specs.Place.{Suffix}
@@ -29,7 +30,6 @@ use Rattle.eertree.proofs.Replay.{walk_first, walk-next}
 use Rattle.store.specs.Layout.{cell, length_in, link_in}
 use Rattle.store.specs.Good.{table_in}
 use Rattle.walk.specs.Walk.{Found, faces_at, Chain, root, further, Meets, letter, nothing, here, onward}
-use Rattle.walk.specs.declared.Walked.{Walked}
 
 -- the used rows lie within the store
 abbrev pub RowsFit : Word → (ℕ → Bool) → Type 0
@@ -112,7 +112,7 @@ module _ {σ : ℕ → ℕ} {s : Word} (b : Word) {used : ℕ → Bool} {node : 
 
   module _ (inv : SelfInverse σ) (t : Word) (k d : ℕ) (l : k ≤ length t) where
     -- the walk for d in a word q that ends the letters read, from a row whose word is shorter than q, or from any if q is all that is read: it finds what is longest behind q with d
-    pub meets-within : (q : Word) → Suffix q (take k t) → (r n : ℕ) (o : Walked) → used r ≡ true → Walk σ d q (node r) → (reach_of (node r) ≤ length q) ⊎ (q ≡ take k t)
+    pub meets-within : (q : Word) → Suffix q (take k t) → (r n : ℕ) (o : Option ℕ) → used r ≡ true → Walk σ d q (node r) → (reach_of (node r) ≤ length q) ⊎ (q ≡ take k t)
         → Meets b t k d (σ d) r n o → Found σ used node q d o
     meets-within q x r n o u a i (letter e w m z) =
         let f = h.row_zero in
@@ -125,11 +125,11 @@ module _ {σ : ℕ → ℕ} {s : Word} (b : Word) {used : ℕ → Bool} {node : 
         (⊎_elim (λ j. inl (omega (arith, link-falls h r u z))) inr i) g
 
     -- from the row of the longest palindrome that ends the letters read: it finds the longest with d
-    pub meets-longest : (r n : ℕ) (o : Walked) → used r ≡ true → node r ≡ spelt (longest_suffix σ (take k t)) → Meets b t k d (σ d) r n o → Found σ used node (take k t) d o
+    pub meets-longest : (r n : ℕ) (o : Option ℕ) → used r ≡ true → node r ≡ spelt (longest_suffix σ (take k t)) → Meets b t k d (σ d) r n o → Found σ used node (take k t) d o
     meets-longest r n o u e m = meets-within (take k t) suffix_refl r n o u (walk_first σ d (take k t) (node r) e) (inr refl) m
 
     -- and it passes as many rows as the search passes candidates
-    steps-within : (r n : ℕ) (o : Walked) → used r ≡ true → Walk σ d (take k t) (node r) → Meets b t k d (σ d) r n o → n ≡ steps_from σ d (take k t) (node r)
+    steps-within : (r n : ℕ) (o : Option ℕ) → used r ≡ true → Walk σ d (take k t) (node r) → Meets b t k d (σ d) r n o → n ≡ steps_from σ d (take k t) (node r)
     steps-within r n o u a (letter e w m z) = m ∙ sym (ap (steps_from σ d (take k t)) (ap node e ∙ h.row_zero.1) ∙ steps-imaginary σ d (take k t))
     steps-within r n o u a (nothing e w m z) = m ∙ sym (ap (steps_from σ d (take k t)) (ap node e ∙ h.row_zero.1) ∙ steps-imaginary σ d (take k t))
     steps-within r n o u a (here z f m e) = m ∙ sym (steps-served σ d (take k t) (node r) (λ y. z (imaginary-row h r u y)) a ((faces-row t k d (take k t) l suffix_refl r u z a (inr refl)).0 f))
@@ -138,12 +138,12 @@ module _ {σ : ℕ → ℕ} {s : Word} (b : Word) {used : ℕ → Bool} {node : 
         let next = steps-within (link_in b r) m o (h.link-is r u).0 (walk-next h d (take k t) r u a miss) g in
         e ∙ ap (λ (i : ℕ). i + 1) next ∙ sym (steps-passed σ d (take k t) (node r) (λ y. z (imaginary-row h r u y)) a miss ∙ ap (λ (v : Node). steps_from σ d (take k t) v + 1) (sym (h.link-is r u).1))
 
-    pub meets-steps : (r n : ℕ) (o : Walked) → used r ≡ true → node r ≡ spelt (longest_suffix σ (take k t)) → Meets b t k d (σ d) r n o → n ≡ search_steps σ d (take k t)
+    pub meets-steps : (r n : ℕ) (o : Option ℕ) → used r ≡ true → node r ≡ spelt (longest_suffix σ (take k t)) → Meets b t k d (σ d) r n o → n ≡ search_steps σ d (take k t)
     meets-steps r n o u e m =
         steps-within r n o u (walk_first σ d (take k t) (node r) e) m ∙ ap (steps_from σ d (take k t)) e ∙ steps-start σ d (take k t)
 
     -- from the link of the row of a palindrome w that ends them: it finds the longest behind w with d, which is the link of what d makes of w
-    pub meets-link : (u n : ℕ) (o : Walked) (w : Word) → used u ≡ true → node u ≡ spelt w → Suffix w (take k t) → Meets b t k d (σ d) (link_in b u) n o → Found σ used node w d o
+    pub meets-link : (u n : ℕ) (o : Option ℕ) (w : Word) → used u ≡ true → node u ≡ spelt w → Suffix w (take k t) → Meets b t k d (σ d) (link_in b u) n o → Found σ used node w d o
     meets-link u n o w m e x g =
         let i = h.link-is u m in
         let f : node (link_in b u) ≡ link_of σ (spelt w) = i.1 ∙ ap (link_of σ) e in

@@ -11,6 +11,7 @@ use mathlib.Core.Logic.{⊎_elim}
 use mathlib.Core.List.{[], ◌∷◌, ◌++◌}
 use lib.ListN.{length, get_or, take, drop, length-take, take-append-drop}
 use lib.Seq.{take-suc, take-length}
+use Rattle.std.specs.Prelude.{Some, None}
 use Rattle.palindromes.specs.Word.{Word, is_letter, same_word}
 use Rattle.palindromes.specs.Place.{Stands, stands}
 use Rattle.palindromes.specs.Record.{longest_suffix}
@@ -30,7 +31,6 @@ use Rattle.eertree.proofs.Rows.{row-high}
 use Rattle.store.specs.Layout.{size_in, used_in, reading_in, letters_in}
 use Rattle.store.specs.Good.{rule_of, table_in, node_in, Good}
 use Rattle.store.proofs.Sizes.{letters-length}
-use Rattle.walk.specs.declared.Walked.TheVariants.{At, Nothing}
 use Rattle.walk.specs.Walk.{Chain, Stepped, grown, ended}
 use Rattle.walk.specs.Replay.{letters_towards, ending_in, new_at, Holds}
 use Rattle.walk.proofs.Found.{chain, meets-longest}
@@ -88,12 +88,12 @@ module _ {b : Word} (g : Good b) where
     pub good-step : (q : ℕ) → Stepped b (letters_in b) k d (rule_of b d) row q → Holds b (k + 1) q
     good-step q (grown u n m f) =
         let h = shows-covers g.table in
-        let w = meets-longest b h (rule-inverse (reading_in b)) (letters_in b) k d (omega (arith, more-letters)) row n (At u) a.used a.holds m in
+        let w = meets-longest b h (rule-inverse (reading_in b)) (letters_in b) k d (omega (arith, more-letters)) row n (Some u) a.used a.holds m in
         let p = step-there h (take k (letters_in b)) d (subst (λ (x : Word). Stands x (letters_in b)) more (read-stands (letters_in b) (k + 1))) (read-letter k l e) u w.0 w.1 in
         record { used = rw f p.0; holds = rw (f, more) p.1 }
     good-step q (ended n m f) =
         let h = shows-covers g.table in
-        let w : longest_suffix (rule_of b) (take k (letters_in b) ++ (d ∷ [])) ≡ [] = meets-longest b h (rule-inverse (reading_in b)) (letters_in b) k d (omega (arith, more-letters)) row n Nothing a.used a.holds m in
+        let w : longest_suffix (rule_of b) (take k (letters_in b) ++ (d ∷ [])) ≡ [] = meets-longest b h (rule-inverse (reading_in b)) (letters_in b) k d (omega (arith, more-letters)) row n None a.used a.holds m in
         record { used = rw f h.row_one.0; holds = rw (f, more, w) h.row_one.1 }
 
 -- ---- what one letter more brings

@@ -13,25 +13,18 @@ ghost use Rattle.std.specs.Prelude.{◌≡◌, ◌+◌, ◌*◌, ◌≤◌, ◌<
 ghost use Rattle.store.specs.Layout.{cell};
 ghost use Rattle.store.specs.Side.{end_of};
 ghost use Rattle.walk.specs.Frame.{standing_in, seen_in, partner_in, Within};
-ghost use Rattle.walk.specs.Walk.{faces_at, facing, Chain, Meets, Stepped};
+ghost use Rattle.walk.specs.Walk.{faces_at, Chain, Meets, Stepped};
 
 use frame::Frame;
-use store::lengths::Place;
 use store::letters::Side;
 use store::rows::Row;
 use store::{lengths, rows};
 
-// Where a walk ends: at the row that the letter grows, or past the imaginary string.
-#[derive(Clone, Copy)]
-pub enum Walked {
-    At(usize),
-    Nothing,
-}
-
-// A walk: where it ended, and how many rows it passed before.
+// A walk: the row that the letter grows, none if it went past the imaginary string, and how many rows
+// it passed before.
 #[derive(Clone, Copy)]
 pub struct Search {
-    pub met: Walked,
+    pub met: Option<usize>,
     pub passed: usize,
 }
 
@@ -45,19 +38,8 @@ pub fn faces(b: &[u8], f: Frame, side: Side, k: usize, row: usize, c: u8) -> boo
 {
     let place = lengths::before(k, rows::length_of(b, row));
     match place {
-        Place::At(i) => frame::standing(b, f, side, i) == c,
-        Place::Outside => false,
-    }
-}
-
-// The letter that must stand before a palindrome for the partner of d to be read there. It is chosen
-// once for a walk, so that no comparison asks for a partner.
-fn facing_letter(side: Side, d: u8, want: u8) -> u8
-    ensures { result ≡ facing (end_of side) d want }
-{
-    match side {
-        Side::Right => want,
-        Side::Left => d,
+        Some(i) => frame::standing(b, f, side, i) == c,
+        None => false,
     }
 }
 
@@ -70,13 +52,15 @@ pub fn walk(b: &[u8], f: Frame, side: Side, k: usize, start: usize, d: u8, want:
     requires want_value { want ≡ partner_in f d }
     ensures { Meets b.now (seen_in b.now f side) k d (partner_in f d) start result.passed result.met }
 {
-    let facing = facing_letter(side, d, want);
+    // The letter that must stand before a palindrome for the partner of d to be read there. It is chosen
+    // once for a walk, so that no comparison asks for a partner.
+    let facing = side.pick(d, want);
     let mut row = start;
     let mut passed = 0;
     while row != Row::IMAGINARY {
         if faces(b, f, side, k, row, facing) {
             return Search {
-                met: Walked::At(row),
+                met: Some(row),
                 passed,
             };
         }
@@ -84,9 +68,9 @@ pub fn walk(b: &[u8], f: Frame, side: Side, k: usize, start: usize, d: u8, want:
         passed += 1;
     }
     let met = if want == d {
-        Walked::At(Row::IMAGINARY)
+        Some(Row::IMAGINARY)
     } else {
-        Walked::Nothing
+        None
     };
     Search { met, passed }
 }
@@ -99,9 +83,8 @@ pub fn step(b: &[u8], f: Frame, side: Side, k: usize, start: usize, d: u8, want:
     ensures { Stepped b.now (seen_in b.now f side) k d (partner_in f d) start result }
 {
     let search = walk(b, f, side, k, start, d, want);
-    let met = search.met;
-    match met {
-        Walked::At(u) => rows::edge_of(b, u, d),
-        Walked::Nothing => Row::EMPTY,
+    match search.met {
+        Some(u) => rows::edge_of(b, u, d),
+        None => Row::EMPTY,
     }
 }

@@ -5,6 +5,7 @@ use borrow.Author.Rules.{rules}
 use mathlib.Core.Path.{◌≡◌, ap, ◌∙◌, subst, subst₂}
 use mathlib.Core.Bool.{true}
 use lib.ListN.{get_or}
+use Rattle.std.specs.Prelude.{Option}
 use Rattle.palindromes.specs.Word.{Word}
 use Rattle.palindromes.specs.End.{at_right}
 use Rattle.store.specs.Layout.{letters_in}
@@ -12,7 +13,6 @@ use Rattle.store.specs.Good.{rule_of}
 use Rattle.store.specs.declared.letters.Side.TheVariants.{Right}
 use Rattle.walk.specs.Frame.{Frames, standing_in, seen_in, partner_in}
 use Rattle.walk.specs.Walk.{Meets}
-use Rattle.walk.specs.declared.Walked.{Walked}
 use Rattle.walk.specs.declared.frame.Frame.{Frame}
 use Rattle.walk.proofs.Stores.{framed-right, framed-standing, framed-rule, framed-within}
 use Rattle.ends.specs.declared.Reach.{Reach}
@@ -27,7 +27,7 @@ module _ {b : Word} {f : Frame} (h : Frames b f) (k : ℕ) where
   letter e = e ∙ ap (λ (t : Word). get_or t k 0) (framed-standing h)
 
   -- and what the walk does, it does over the store's letters
-  met : {d r n : ℕ} {o : Walked} → Meets b (seen_in b f Right) k d (partner_in f d) r n o → Meets b (letters_in b) k d (rule_of b d) r n o
+  met : {d r n : ℕ} {o : Option ℕ} → Meets b (seen_in b f Right) k d (partner_in f d) r n o → Meets b (letters_in b) k d (rule_of b d) r n o
   met {d} {r} {n} {o} m = subst₂ (λ (t : Word) (want : ℕ). Meets b t k d want r n o) (framed-right h) (framed-rule h d) m
 
 -- the entry, from behind the walk
@@ -57,16 +57,16 @@ enter-requires c κs =
     let p = (entry w).requires in
     let e = letter p.0.0 (entry w).args.k w.before.before.standing-d.ensures in
     let m = met p.0.0 (entry w).args.k w.walk-search.ensures in
-    ((p.0.0, wanted w.before), (p.1, tour-grows p.1 e m found.in-At.u found.in-At.is))
+    ((p.0.0, wanted w.before), (p.1, tour-grows p.1 e m found.in-Some.u found.in-Some.is))
 
-returns-2 : tie.Need-returns-in-Nothing
+returns-2 : tie.Need-returns-in-None
 returns-2 c =
     let told = c.before.before in
     let w = told.before in
     let p = (entry w).requires in
     let e = letter p.0.0 (entry w).args.k w.before.before.standing-d.ensures in
     let t = (entry w).args.tour in
-    tour-none p.1 e (met p.0.0 (entry w).args.k w.walk-search.ensures) told.in-Nothing.is
+    tour-none p.1 e (met p.0.0 (entry w).args.k w.walk-search.ensures) told.in-None.is
     (subst (λ (x : Reach). Arrived t 1 true x t.met c.arrive.result) c.before.reach_at-left.ensures c.arrive.ensures)
 
 pub advance_spec : {M : Type 1} → statement M

@@ -1,6 +1,6 @@
 -- `bed_reader::parse` meets its contract: what is left to prove, by the places of the first two tabs.
 use Rattle.std.proofs.Common.{arith, sym, ◌∙◌}
-use Rattle.bed_reader.proofs.Parsing.{no-tab, second-most, one-tab, no_start, no_end, a-line}
+use Rattle.bed_reader.proofs.Parsing.{no-tab, second-most, one-tab, no_start, no_end, a-line, compared}
 use Rattle.bed_reader.proofs.parse.Goals as goal
 
 pub returns-then-n-first : goal.returns-then-n-first
@@ -14,17 +14,20 @@ pub returns-then-n-second : goal.returns-then-n-second
 returns-then-n-second c =
     one-tab _ _ _ c.find_byte-first.ensures c.if-n-first.false _ c.find_byte.ensures c.if-n-second.true
 
-pub returns-in_default : goal.returns-in_default
-returns-in_default c =
-    no_start _ _ _ c.find_byte-first.ensures c.if-n-first.false _ c.find_byte.ensures c.if-n-second.false
-    (sym c.read_number.ensures ∙ c.in_default.is)
+pub returns-in_err-start : goal.returns-in_err-start
+returns-in_err-start c =
+    c.from_residual.ensures
+    ∙ no_start _ _ _ c.find_byte-first.ensures c.if-n-first.false _ c.find_byte.ensures c.if-n-second.false
+    (sym c.read_number.ensures ∙ c.in_err-start.was)
 
-pub returns-in_default-read_number : goal.returns-in_default-read_number
-returns-in_default-read_number c =
-    no_end _ _ _ c.find_byte-first.ensures c.if-n-first.false _ c.find_byte.ensures c.if-n-second.false
-    (sym c.read_number-2.ensures ∙ c.in_default-read_number.is)
+pub returns-in_err-end : goal.returns-in_err-end
+returns-in_err-end c =
+    c.from_residual-in_err-end.ensures
+    ∙ no_end _ _ _ c.find_byte-first.ensures c.if-n-first.false _ c.find_byte.ensures c.if-n-second.false
+    (sym c.read_number-2.ensures ∙ c.in_err-end.was)
 
 pub returns : goal.returns
 returns c =
     a-line _ _ _ c.find_byte-first.ensures c.if-n-first.false _ c.find_byte.ensures c.if-n-second.false
-    (sym c.read_number.ensures ∙ c.in-Value.is) (sym c.read_number-2.ensures ∙ c.in-Value-read_number.is) c.same_word.ensures
+    (sym c.read_number.ensures ∙ c.in_ok-start.was) (sym c.read_number-2.ensures ∙ c.in_ok-end.was)
+    (c.eq.ensures ∙ compared _ _)

@@ -17,7 +17,7 @@ unfolding complement
 returns c x h =
     letter-cases (λ (y : ℕ). get_or (84 ∷ 71 ∷ 65 ∷ 67 ∷ []) (place_of y) 0 ≡ complement y) refl refl refl refl x h ∙ sym (rule-inverted _ (eq-eqb _ 1 c.if-reading-eq1.true) x)
 
-returns-2 : tie.Need-returns
+returns-2 : tie.Need-returns-else-reading-eq1
 returns-2 c x h =
     letter-cases (λ (y : ℕ). get_or (65 ∷ 67 ∷ 84 ∷ 71 ∷ []) (place_of y) 0 ≡ y) refl refl refl refl x h ∙ sym (rule-plain _ (ne_eqb _ 1 c.if-reading-eq1.false) x)
 

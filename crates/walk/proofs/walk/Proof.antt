@@ -6,11 +6,10 @@ use borrow.Author.Rules.{rules}
 use mathlib.Core.Path.{◌≡◌, refl, sym, ap, ◌∙◌, subst}
 use mathlib.Core.Bool.{Bool, true, false}
 use mathlib.Core.Logic.{◌⊎◌, inl, inr, ⊎_elim}
+use Rattle.std.specs.Prelude.{Option, Some, None}
 use Rattle.palindromes.specs.Word.{Word}
 use Rattle.store.specs.Layout.{cell, link_in}
 use Rattle.store.specs.Side.{end_of}
-use Rattle.walk.specs.declared.Walked.{Walked}
-use Rattle.walk.specs.declared.Walked.TheVariants.{At, Nothing}
 use Rattle.walk.specs.Frame.{standing_in, seen_in, partner_in}
 use Rattle.walk.specs.Walk.{faces_at, facing, Chain, Meets, letter, nothing, here, onward}
 use Rattle.walk.proofs.Chains.{chain_fits, chain_next}
@@ -22,7 +21,7 @@ use Rattle.walk.proofs.walk.Tie as tie
 record Turn (b t : Word) (k d want start row passed : ℕ) : Type 0 where
   chain : Chain b row
   few : (passed ≡ 0) ⊎ (passed + cell b row 0 < 65536)
-  back : (n m : ℕ) (o : Walked) → m ≡ passed + n → Meets b t k d want row n o → Meets b t k d want start m o
+  back : (n m : ℕ) (o : Option ℕ) → m ≡ passed + n → Meets b t k d want row n o → Meets b t k d want start m o
 
 -- at the first row
 turn-start : {b t : Word} {k d want start : ℕ} → Chain b start → Turn b t k d want start start 0
@@ -37,8 +36,8 @@ decreases-loop b f side k start d want facing row₀ passed₀ row passed = cell
 
 module _ {b t : Word} {k d want start row passed : ℕ} (h : Turn b t k d want start row passed) (n : row ≡ 0 → ⊥) (x : Bool) (f : (x ≡ faces_at b t k want row) × (cell b row 0 < 65536)) where
   -- the walk ends at a row that faces the wanted letter
-  turn-here : x ≡ true → Meets b t k d want start passed (At row)
-  turn-here g = h.back 0 passed (At row) (omega arith) (here n (cc f.0) refl refl)
+  turn-here : x ≡ true → Meets b t k d want start passed (Some row)
+  turn-here g = h.back 0 passed (Some row) (omega arith) (here n (cc f.0) refl refl)
 
   -- else it goes on to the row's link, with one row more passed; the stored lengths are numbers of two bytes, so that these are few
   few-more : passed + 1 + cell b (link_in b row) 0 < 65536
@@ -78,8 +77,8 @@ compared c =
     let chosen = c.before.before.before in
     let row = c.before.before.loop-row.row in
     let stored : 0 < cell a.b.now row 0 = omega (arith, (chain_next c.before.before.loop-row.invariant.chain c.before.loop-row-test.true).0) in
-    let letter : chosen.facing_letter-facing.result ≡ facing (end_of a.side) a.d (partner_in a.f a.d) =
-    chosen.facing_letter-facing.ensures ∙ ap (facing (end_of a.side) a.d) s.requires.1.1 in (
+    let letter : chosen.pick-facing.result ≡ facing (end_of a.side) a.d (partner_in a.f a.d) =
+    chosen.pick-facing.ensures ∙ ap (facing (end_of a.side) a.d) s.requires.1.1 in (
       c.faces.ensures.0
           ∙ ap (λ (x : ℕ). faces_at a.b.now (standing_in a.b.now a.f a.side) a.k x row) letter
           ∙ facing-read a.b.now a.f a.side a.k a.d row s.requires.0 stored,
@@ -113,14 +112,14 @@ returns-2 c =
     let s = c.before.before.before.before.before in
     let partner = s.requires.1.1 in
     let l = c.before.before.loop-row in
-    l.invariant.back 0 l.passed (At 0) (omega arith) (letter c.before.loop-row-test.false (sym partner ∙ c.if-want-d.true) refl refl)
+    l.invariant.back 0 l.passed (Some 0) (omega arith) (letter c.before.loop-row-test.false (sym partner ∙ c.if-want-d.true) refl refl)
 
 returns-3 : tie.Need-returns-else-want-d invariant-loop decreases-loop
 returns-3 c =
     let s = c.before.before.before.before.before in
     let partner = s.requires.1.1 in
     let l = c.before.before.loop-row in
-    l.invariant.back 0 l.passed Nothing (omega arith) (nothing c.before.loop-row-test.false (λ e. c.if-want-d.false (partner ∙ e)) refl refl)
+    l.invariant.back 0 l.passed None (omega arith) (nothing c.before.loop-row-test.false (λ e. c.if-want-d.false (partner ∙ e)) refl refl)
 
 pub walk_spec : {M : Type 1} → statement M
 walk_spec =
