@@ -12,8 +12,8 @@ ghost use Rattle.outcome.specs.Verdict.{Verdict, judged_number};
 ghost use Rattle.addition_call.specs.Reported.{reports_in, reported_of};
 
 use filling::fill;
-use outcome::answers::Added;
-use outcome::{answers, refuse};
+use outcome::answers;
+use outcome::answers::{Added, refuse};
 use refusal::Refusal;
 use store::header;
 use store::letters::Side;

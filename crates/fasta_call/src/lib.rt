@@ -4,7 +4,8 @@
 
 ghost use Rattle.fasta_call.specs.Answer.{FastaPromise};
 
-use outcome::{pack, refuse};
+use outcome::answers::refuse;
+use outcome::pack;
 
 // Reads a text into the buffer: the identifier's length and the number of letters.
 pub fn read_text(text: &[u8], out: &mut [u8]) -> u64

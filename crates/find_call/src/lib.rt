@@ -7,8 +7,7 @@ ghost use Rattle.outcome.specs.Promise.{nothing, Asked};
 ghost use Rattle.outcome.specs.Verdict.{Verdict, judged_number};
 
 use alphabet::all_letters;
-use outcome::answers::answer_found;
-use outcome::refuse;
+use outcome::answers::{answer_found, refuse};
 use refusal::Refusal;
 
 // Why a piece cannot be searched, if it cannot.

@@ -8,7 +8,8 @@ ghost use Rattle.outcome.specs.Verdict.{Verdict, judged_number};
 
 use end_rows::rows_at_ends;
 use frequencies::occurrences_by_row;
-use outcome::{pack, pack_wide, refuse};
+use outcome::answers::refuse;
+use outcome::{pack, pack_wide};
 use questions::rows;
 use refusal::Refusal;
 use store::rows::Row;

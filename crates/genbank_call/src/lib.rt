@@ -12,7 +12,8 @@ ghost use Rattle.outcome.specs.Promise.{lending, AskedInto};
 ghost use Rattle.outcome.specs.Verdict.{Verdict, judged_number};
 
 use genbank::{page_length, put_page};
-use outcome::{pack, refuse};
+use outcome::answers::refuse;
+use outcome::pack;
 use questions::record;
 use refusal::Refusal;
 use walk::frame::frame_of;

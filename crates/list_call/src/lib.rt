@@ -7,7 +7,8 @@ ghost use Rattle.outcome.specs.Promise.{lending, Asked};
 ghost use Rattle.outcome.specs.Verdict.{Verdict, judged_number};
 
 use identifier::is_identifier;
-use outcome::{pack, refuse};
+use outcome::answers::refuse;
+use outcome::pack;
 use refusal::Refusal;
 
 // Why the list cannot be written, if it cannot.

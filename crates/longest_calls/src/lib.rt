@@ -15,7 +15,8 @@ ghost use Rattle.outcome.specs.Verdict.{Verdict};
 
 use audit_tour::{Tour, reach_at};
 use longest_palindrome::{at_end, whole};
-use outcome::{pack, refuse};
+use outcome::answers::refuse;
+use outcome::pack;
 use questions::record;
 use refusal::Refusal;
 use store::letters::Side;

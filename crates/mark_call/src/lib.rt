@@ -8,7 +8,8 @@ ghost use Rattle.outcome.specs.Promise.{AskedInto};
 ghost use Rattle.mark_call.specs.Told.{told};
 
 use identifier::is_identifier;
-use outcome::{pack, refuse};
+use outcome::answers::refuse;
+use outcome::pack;
 use refusal::Refusal;
 use tally::Tally;
 

@@ -8,7 +8,8 @@ ghost use Rattle.outcome.specs.Promise.{OpeningPromise};
 ghost use Rattle.opening_call.specs.Room.{Room, Refuses};
 
 use opening::Reading;
-use outcome::{pack, refuse};
+use outcome::answers::refuse;
+use outcome::pack;
 use refusal::Refusal;
 
 // The capacity as a size, where a store has room for a record of it; and else why it has not.

@@ -1,10 +1,12 @@
-// What an addition, a removal and a search answer, a case for each that document 01 names, and their
-// packing.
+// What an addition, a removal and a search answer, a case for each that document 01 names, what a
+// refused call answers, and their packing.
 ghost use Rattle.std.specs.Prelude.{◌≡◌, ◌<◌};
-ghost use Rattle.outcome.specs.Reply.{packed};
+ghost use Rattle.refusal.specs.Number.{number_of};
+ghost use Rattle.outcome.specs.Reply.{packed, refused_with};
 ghost use Rattle.outcome.specs.Answers.{added_reply, removed_reply, found_reply};
 
 use super::pack;
+use refusal::Refusal;
 
 // Each of the three stays an enum of its own: a definition gives the number and the values of each of
 // its cases, and a case that has no row has a number or a letter all the same.
@@ -65,4 +67,11 @@ pub fn answer_found(found: Found) -> u64
         Found::At(row, pair) => pack(true, row, pair, 0),
         Found::Absent(pair) => pack(false, 0, pair, 0),
     }
+}
+
+// The answer of a refused call.
+pub fn refuse(refusal: Refusal) -> u64
+    ensures { result ≡ packed (refused_with (number_of refusal)) }
+{
+    super::refuse(refusal.number())
 }

@@ -5,11 +5,8 @@
 pub mod answers;
 
 ghost use Rattle.std.specs.Prelude.{◌≡◌, ◌<◌};
-ghost use Rattle.refusal.specs.Number.{number_of};
 ghost use Rattle.outcome.specs.Reply.{packed, accepted, answered, refused_with};
 ghost use Rattle.outcome.specs.Wide.{wide_answer};
-
-use refusal::Refusal;
 
 // The answer of a call that was carried out.
 #[tactic(auto, unfolding(crate::specs::Reply::packed, crate::specs::Reply::accepted, crate::specs::Reply::bit))]
@@ -32,10 +29,10 @@ pub fn pack_wide(rows: usize, ends: usize) -> u64
     65536 * rows as u64 + 1099511627776 * ends as u64
 }
 
-// The answer of a refused call.
+// The answer of a call that is refused with a number.
 #[tactic(auto, unfolding(crate::specs::Reply::packed, crate::specs::Reply::refused_with, crate::specs::Reply::bit))]
-pub fn refuse(refusal: Refusal) -> u64
-    ensures { result ≡ packed (refused_with (number_of refusal)) }
+pub fn refuse(number: u64) -> u64
+    ensures { result ≡ packed (refused_with number) }
 {
-    refusal.number()
+    number
 }

@@ -7,7 +7,7 @@ ghost use Rattle.std.proofs.lemmas.List.Edits.{sets};
 ghost use Rattle.printing.specs.Printed.{printed};
 
 use refusal::Refusal;
-use refusal_line::put_refusal;
+use refusal_line::put_line;
 use text_printing::print_text;
 
 // Writes what mirrorlist prints for a text at the front of `out`, and answers how many bytes it has.
@@ -17,7 +17,7 @@ pub fn print(text: &[u8], out: &mut [u8]) -> usize
     ensures behind { result ≡ length (printed text.now) }
 {
     if 65536 < text.len() {
-        return put_refusal(out, Refusal::LongText);
+        return put_line(out, Refusal::LongText);
     }
     print_text(text, out)
 }

@@ -7,7 +7,8 @@ ghost use Rattle.palindromes.specs.Refusal.{ask, the_length, the_count, the_long
 ghost use Rattle.outcome.specs.Promise.{nothing, Asked};
 ghost use Rattle.outcome.specs.Verdict.{Verdict, judged_number};
 
-use outcome::{pack, refuse};
+use outcome::answers::refuse;
+use outcome::pack;
 use questions::record;
 use refusal::Refusal;
 use store::header;

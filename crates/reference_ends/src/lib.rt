@@ -14,21 +14,26 @@ use reference_symmetry::is_symmetric;
 pub fn longest_suffix(rule: &[u8], s: &[u8]) -> usize
     ensures { result ≡ length (longest_suffix (rule_of rule.now) s.now) }
 {
-    (1..=s.len())
-        .rev()
-        .find(|l| is_symmetric(rule, &s[s.len() - *l..]))
-        .unwrap_or(0)
+    for start in 0..s.len() {
+        if is_symmetric(rule, &s[start..]) {
+            return s.len() - start;
+        }
+    }
+    0
 }
 
 // The length of the longest palindrome at the left end, 0 where there is none. It shares no more with
-// longest_suffix than the chain: what is tested is another part.
+// longest_suffix than the loop: what is tested is another part.
 pub fn longest_prefix(rule: &[u8], s: &[u8]) -> usize
     ensures { result ≡ length (longest_prefix (rule_of rule.now) s.now) }
 {
-    (1..=s.len())
-        .rev()
-        .find(|l| is_symmetric(rule, &s[..*l]))
-        .unwrap_or(0)
+    for left_out in 0..s.len() {
+        let end = s.len() - left_out;
+        if is_symmetric(rule, &s[..end]) {
+            return end;
+        }
+    }
+    0
 }
 
 // The length of what the suffix link of v spells: the longest palindrome that ends v and is not v.

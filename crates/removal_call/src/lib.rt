@@ -14,7 +14,8 @@ ghost use Rattle.outcome.specs.Verdict.{Verdict};
 
 use audit_tour::reach_at;
 use ends::Reach;
-use outcome::{answers, refuse};
+use outcome::answers;
+use outcome::answers::refuse;
 use refusal::Refusal;
 use store::header;
 use store::letters::Side;

@@ -9,7 +9,8 @@ ghost use Rattle.outcome.specs.Reply.{twos_complement};
 ghost use Rattle.outcome.specs.Promise.{nothing, Asked};
 ghost use Rattle.outcome.specs.Verdict.{Verdict, judged_number};
 
-use outcome::{pack, refuse};
+use outcome::answers::refuse;
+use outcome::pack;
 use questions::rows;
 use refusal::Refusal;
 

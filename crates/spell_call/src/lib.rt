@@ -7,7 +7,8 @@ ghost use Rattle.palindromes.specs.Refusal.{ask, spell};
 ghost use Rattle.outcome.specs.Promise.{lending, AskedInto};
 ghost use Rattle.outcome.specs.Verdict.{Verdict, judged_number};
 
-use outcome::{pack, refuse};
+use outcome::answers::refuse;
+use outcome::pack;
 use questions::rows;
 use refusal::Refusal;
 

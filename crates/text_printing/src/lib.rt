@@ -11,7 +11,7 @@ ghost use Rattle.text_printing.specs.PrintedFor.{identifier_of, printed_for};
 ghost use Rattle.text_printing.specs.Read.{Read};
 
 use letters_listing::list_letters;
-use refusal_line::put_refusal;
+use refusal_line::put_line;
 
 // Lists the first m letters of the buffer under the identifier of n bytes that the text begins with.
 fn list_read(text: &[u8], n: usize, letters: &[u8], m: usize, out: &mut [u8]) -> usize
@@ -32,6 +32,6 @@ pub fn print_text(text: &[u8], out: &mut [u8]) -> usize
     let mut letters = [0u8; 1024];
     match fasta::read(text, &mut letters) {
         Ok(read) => list_read(text, read.identifier, &letters, read.letters, out),
-        Err(refusal) => put_refusal(out, refusal),
+        Err(refusal) => put_line(out, refusal),
     }
 }

@@ -7,7 +7,8 @@ ghost use Rattle.opening.specs.Ways.{way_of};
 ghost use Rattle.outcome.specs.Promise.{nothing, Promise};
 
 use opening::Reading;
-use outcome::{pack, refuse};
+use outcome::answers::refuse;
+use outcome::pack;
 use refusal::Refusal;
 
 // Turns the record to a reading.

@@ -6,7 +6,8 @@ ghost use Rattle.uncertain_call.specs.Answer.{UncertainPromise};
 
 use base_sets::read_sets;
 use facing_sets::longest;
-use outcome::{pack, refuse};
+use outcome::answers::refuse;
+use outcome::pack;
 use refusal::Refusal;
 
 // The length of the longest stretch that is a mirror repeat for some choice of bases, and of the longest

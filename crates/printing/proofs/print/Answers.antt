@@ -7,7 +7,7 @@ use Rattle.printing.proofs.print.Goals as goal
 
 pub returns-then-text-gt65536 : goal.returns-then-text-gt65536
 returns-then-text-gt65536 c =
-    let e = c.put_refusal.ensures in
+    let e = c.put_line.ensures in
     let p = sym (too_long c.args.text.now c.if-text-gt65536.true) in
     record { written = e.written ∙ ap (λ (w : Word). sets c.args.out.now 0 w) p; behind = e.behind ∙ ap length p }
 

@@ -1,18 +1,13 @@
-use Rattle.std.proofs.Common.{ap, sym, ◌∙◌, length, rules, arith, unwrap_or}
-use borrow.Author.Tests.{tests}
-use Rattle.std.proofs.lemmas.Iterator.Adapters.{option_map_id}
-use Rattle.std.proofs.lemmas.Iterator.Search.{find_from_yields_List}
-use Rattle.mismatch.specs.Rule.{rule_of}
-use Rattle.reference_symmetry.proofs.Ranges.{YieldsList-from_countdown}
-use Rattle.reference_ends.proofs.AtEnds.{ends_alike, suffix-found}
+use Rattle.std.proofs.Common.{ap, sym, ◌∙◌, length}
+use Rattle.reference_ends.proofs.AtEnds.{suffix-here, suffix-shorter, suffix-none}
 use Rattle.reference_ends.proofs.longest_suffix.Goals as goal
 
+pub returns-then-is_symmetric : goal.returns-then-is_symmetric
+returns-then-is_symmetric c =
+    sym (ap length c.loop-start.invariant ∙ suffix-here _ _ _ c.loop-start-test.true (sym c.is_symmetric.ensures ∙ c.if-is_symmetric.true))
+
+pub loop-start-preserved : goal.loop-start-preserved
+loop-start-preserved c = c.loop-start.invariant ∙ suffix-shorter _ _ _ c.loop-start-test.true (sym c.is_symmetric.ensures ∙ c.if-is_symmetric.false)
+
 pub returns : goal.returns
-returns c =
-    let σ = rule_of c.args.rule.now in
-    let s = c.args.s.now in
-    let range = c.new.ensures in
-    let found = find_from_yields_List (ends_alike σ s) _ _ c.find.result c.find.ensures.ran
-    (YieldsList-from_countdown 1 (length s) (length s) c.rev.ensures.source range.start range.end range.exhausted (omega arith))
-    (λ x b q k. search (rules, tests)) in
-    c.unwrap_or.ensures ∙ ap (λ o. unwrap_or o 0) (sym (option_map_id c.find.result) ∙ found) ∙ suffix-found σ s
+returns c = sym (ap length (c.loop-start.invariant ∙ suffix-none _ _ _ c.loop-start-test.false))

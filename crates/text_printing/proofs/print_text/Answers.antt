@@ -19,6 +19,6 @@ returns-in-Ok c =
 
 pub returns-in-Err : goal.returns-in-Err
 returns-in-Err c =
-    let e = c.put_refusal.ensures in
+    let e = c.put_line.ensures in
     let w = refusal-written c.args.text.now c.args.out.now _ c.in-Err.ensures.0 e.written e.behind in
     record { written = w.0; behind = w.1 }
